@@ -13,7 +13,7 @@ from asked import answer_help
 answer_help(__name__, __doc__)
 
 VALUED = ("--conflicts", "--seconds", "--reach", "--members", "--seed", "--from", "--rounds")
-FLAGS = ("--keep", "--count", "--pin", "--symmetry", "--free", "--strict")
+FLAGS = ("--keep", "--count", "--pin", "--symmetry", "--free", "--strict", "--stats")
 BUDGET, BUDGET_LIMIT, ROUND_LIMIT, WIDTH_LIMIT, NAMED = 1_000_000, 100_000_000, 100_000, 64, 10
 ROUNDS = 500  # at most, where the words name no number
 START_LIMIT, CROWD_LIMIT = 512, 128

@@ -8,12 +8,12 @@ _gafkelam() {
     fi
     local options=--help
     case $command in
-    route | sweep) options="--conflicts --seconds --keep --count --pin --symmetry --reach --members --seed --help" ;;
-    core) options="--conflicts --seconds --pin --symmetry --help" ;;
-    trial) options="--conflicts --seconds --keep --count --reach --help" ;;
+    route | sweep) options="--conflicts --seconds --keep --count --pin --symmetry --reach --members --seed --stats --help" ;;
+    core) options="--conflicts --seconds --pin --symmetry --stats --help" ;;
+    trial) options="--conflicts --seconds --keep --count --reach --stats --help" ;;
     encode) options="--pin --symmetry --reach --names --help" ;;
     decode) options="--pin --symmetry --reach --help" ;;
-    global | least) options="--free --from --rounds --help" ;;
+    global | least) options="--free --from --rounds --seconds --stats --help" ;;
     verify) options="--reach --all --help" ;;
     picture) options="--reach --html --help" ;;
     judge) options="--strict --help" ;;

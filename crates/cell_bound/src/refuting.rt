@@ -11,7 +11,7 @@ use crate::blaming::blamed_nets;
 use crate::windows::{first_size, last_size, square, stride};
 use cell_clauses::PlacedWindow;
 use fpga_types::{Arch, Netlist, Placement};
-use patience::Forever;
+use patience::Patience;
 use route_bound::CornerRange;
 use route_core::{trim, trimmed_is_its_own};
 use sat_clause::{CLAUSE_LIMIT, Formula, Log};
@@ -60,17 +60,19 @@ struct Looks<'a> {
 /// 64, or fewer: that of the first window that a search refutes, cut down to what it needs. The
 /// nets that it blames have no such routing by themselves, whatever the others would have. Windows
 /// are those round squares of two by two to five by five blocks, the smallest squares first, as
-/// many of each size, all over the array. None says nothing.
+/// many of each size, all over the array. The patience is asked before each window, and by its
+/// search; where it is over none is refuted. None says nothing.
 ///
 /// # Errors
 /// Where memory is short.
-pub fn refute(
+pub fn refute<P: Patience>(
     alloc: Global,
     arch: &Arch,
     netlist: &Netlist,
     placement: &Placement,
     width: u32,
     budget: Budget,
+    patience: &mut P,
 ) -> Result<Option<CellRefutation>, AllocError>
     requires nets { length netlist.now.nets ≤ NET_LIMIT }
     requires pins { length arch.now.pins ≤ PIN_LIMIT }
@@ -87,7 +89,7 @@ pub fn refute(
         budget,
     };
     for size in first_size()..last_size(placement.grid) + 1 {
-        let found = looks.refuted_of_size(alloc, size)?;
+        let found = looks.refuted_of_size(alloc, size, patience)?;
         if found.is_some() {
             return Ok(found);
         }
@@ -97,10 +99,11 @@ pub fn refute(
 
 impl<'a> Looks<'a> {
     /// The first window round squares of so many blocks that is refuted.
-    fn refuted_of_size(
+    fn refuted_of_size<P: Patience>(
         &self,
         alloc: Global,
         size: u32,
+        patience: &mut P,
     ) -> Result<Option<CellRefutation>, AllocError>
         ensures { IfOk result (λ found. IfSome found (IsRefuted
             (placed_netlist self.now.arch.now self.now.netlist.now self.now.placement.now)
@@ -110,7 +113,8 @@ impl<'a> Looks<'a> {
         let grid = placement.grid;
         let stride = stride(grid, self.budget.looks);
         for column in 0..grid.nx {
-            let found = self.refuted_in_column(alloc, size, stride, column.saturating_mul(stride))?;
+            let left = column.saturating_mul(stride);
+            let found = self.refuted_in_column(alloc, size, stride, left, patience)?;
             if found.is_some() {
                 return Ok(found);
             }
@@ -119,12 +123,13 @@ impl<'a> Looks<'a> {
     }
 
     /// The first one in a column of squares.
-    fn refuted_in_column(
+    fn refuted_in_column<P: Patience>(
         &self,
         alloc: Global,
         size: u32,
         stride: u32,
         left: u32,
+        patience: &mut P,
     ) -> Result<Option<CellRefutation>, AllocError>
         ensures { IfOk result (λ found. IfSome found (IsRefuted
             (placed_netlist self.now.arch.now self.now.netlist.now self.now.placement.now)
@@ -137,7 +142,7 @@ impl<'a> Looks<'a> {
             let Some(range) = square(grid, size, left, bottom) else {
                 return Ok(None);
             };
-            let found = self.refuted_window(alloc, range)?;
+            let found = self.refuted_window(alloc, range, patience)?;
             if found.is_some() {
                 return Ok(found);
             }
@@ -145,16 +150,20 @@ impl<'a> Looks<'a> {
         Ok(None)
     }
 
-    /// What refutes the window of a rectangle, if a search does.
-    fn refuted_window(
+    /// What refutes the window of a rectangle, if a search does, which the patience is asked for.
+    fn refuted_window<P: Patience>(
         &self,
         alloc: Global,
         range: CornerRange,
+        patience: &mut P,
     ) -> Result<Option<CellRefutation>, AllocError>
         ensures { IfOk result (λ found. IfSome found (IsRefuted
             (placed_netlist self.now.arch.now self.now.netlist.now self.now.placement.now)
             self.now.width)) }
     {
+        if !patience.goes_on() {
+            return Ok(None);
+        }
         let window = PlacedWindow::of(
             alloc,
             self.arch,
@@ -171,24 +180,25 @@ impl<'a> Looks<'a> {
             return Ok(None);
         }
         let formula = window.formula(alloc)?;
-        refuted_formula(alloc, &window, range, formula, self.budget)
+        refuted_formula(alloc, &window, range, formula, self.budget, patience)
     }
 }
 
 /// What refutes the formula of a rectangle's window, if a log is found that does, and the nets that
 /// it blames.
-fn refuted_formula(
+fn refuted_formula<P: Patience>(
     alloc: Global,
     window: &PlacedWindow<'_>,
     range: CornerRange,
     formula: Formula,
     budget: Budget,
+    patience: &mut P,
 ) -> Result<Option<CellRefutation>, AllocError>
     requires { formula.cnf ≡ cell_cnf (frame_in window.now) }
     ensures { IfOk result (λ found. IfSome found
         (IsFoundFor (frame_in window.now) range formula.cnf)) }
 {
-    let Some(log) = refuting_log(alloc, &formula, budget)? else {
+    let Some(log) = refuting_log(alloc, &formula, budget, patience)? else {
         return Ok(None);
     };
     let nets = blamed_nets(alloc, window, &formula, &log)?;
@@ -202,7 +212,12 @@ fn refuted_formula(
 
 /// A log that refutes a formula, cut down to what it needs, if the formula has no more clauses than
 /// may be read and a search refutes it.
-fn refuting_log(alloc: Global, formula: &Formula, budget: Budget) -> Result<Option<Log>, AllocError>
+fn refuting_log<P: Patience>(
+    alloc: Global,
+    formula: &Formula,
+    budget: Budget,
+    patience: &mut P,
+) -> Result<Option<Log>, AllocError>
     ensures { IfOk result (λ found. IfSome found
         (λ log. IsCutRefutation formula.now.cnf log.steps)) }
 {
@@ -217,7 +232,7 @@ fn refuting_log(alloc: Global, formula: &Formula, budget: Budget) -> Result<Opti
         habits,
         budget.learned,
         true,
-        &mut Forever,
+        patience,
         &mut log,
     )?;
     match answer {

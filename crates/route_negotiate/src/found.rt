@@ -1,5 +1,5 @@
 //! A search for wires of all nets.
-ghost use Rattle.std.specs.Prelude.{◌≡◌, ◌≤◌, IfOk, IfSome, length};
+ghost use Rattle.std.specs.Prelude.{◌≡◌, ◌≤◌, IfOk, IfSome, length, true};
 ghost use Rattle.fpga_types.specs.declared.limits.TheConstants.{WIDTH_LIMIT};
 ghost use Rattle.route_negotiate.specs.Routings.{AreWithin};
 
@@ -10,13 +10,16 @@ use crate::rounds::Search;
 use crate::routing::{NetPaths, all_paths};
 use crate::tree::Tree;
 use fpga_types::{Arch, Netlist, Placement, RouteText, WIDTH_LIMIT};
+use patience::Patience;
 use std::alloc::{AllocError, Global};
 
-/// What a search came to: how many rounds it made, and the paths of each net by its number in the
-/// netlist, of which global nets have none, if it found some.
+/// What a search came to: how many rounds it made, whether its caller's patience ended them, and
+/// the paths of each net by its number in the netlist, of which global nets have none, if it found
+/// some.
 #[derive(Drop)]
 pub struct Sought {
     pub rounds: u32,
+    pub stopped: bool,
     pub nets: Option<Vec<NetPaths>>,
 }
 
@@ -30,7 +33,9 @@ pub struct Sought {
 /// Where a route is given, its nets keep its cells in the beginning, each on the track on which it
 /// shares least with the nets before it. Where rounds bring no gain any more, the search begins
 /// anew, and tries the tracks of each net in another order; or it gives up, if many nets have
-/// shared something in each round so far. The answer is the same wherever and whenever it is asked.
+/// shared something in each round so far. The patience is asked before each round: where it is over
+/// no more are made, and nothing is found. Where it never is the answer is the same wherever and
+/// whenever it is asked.
 ///
 /// No law says which wires are found: whoever relies on them has them judged. A round takes the
 /// time of the waves that nets send out, and of the wires; memory is 20 bytes a wire, some 40 a pin
@@ -38,7 +43,7 @@ pub struct Sought {
 ///
 /// # Errors
 /// Where memory is short.
-pub fn negotiate(
+pub fn negotiate<P: Patience>(
     alloc: Global,
     arch: &Arch,
     netlist: &Netlist,
@@ -46,27 +51,33 @@ pub fn negotiate(
     width: u32,
     options: Options,
     given: Option<&RouteText>,
+    patience: &mut P,
 ) -> Result<Sought, AllocError>
     requires { (1 ≤ width) × (width ≤ WIDTH_LIMIT) }
     ensures rounds { IfOk result (λ sought. sought.rounds ≤ options.rounds) }
+    ensures stopped { IfOk result
+        (λ sought. sought.stopped ≡ true → P.is_over patience.new) }
     ensures each { IfOk result (λ sought. IfSome sought.nets
         (λ nets. length nets.items ≡ length netlist.now.nets)) }
     ensures within { IfOk result (λ sought. IfSome sought.nets
         (λ nets. AreWithin placement.now.grid width nets.items)) }
 {
     let board = Board::new(alloc, arch, netlist, placement, width)?;
-    search_on(alloc, &board, width, options, given)
+    search_on(alloc, &board, width, options, given, patience)
 }
 
 /// The same on a board.
-fn search_on(
+fn search_on<P: Patience>(
     alloc: Global,
     board: &Board<'_>,
     width: u32,
     options: Options,
     given: Option<&RouteText>,
+    patience: &mut P,
 ) -> Result<Sought, AllocError>
     ensures rounds { IfOk result (λ sought. sought.rounds ≤ options.rounds) }
+    ensures stopped { IfOk result
+        (λ sought. sought.stopped ≡ true → P.is_over patience.new) }
     ensures each { IfOk result (λ sought. IfSome sought.nets
         (λ nets. length nets.items ≡ length board.now.netlist.now.nets)) }
     ensures within { IfOk result (λ sought. IfSome sought.nets
@@ -76,11 +87,12 @@ fn search_on(
     if let Some(route) = given {
         search.take_given(alloc, route)?;
     }
-    let made = search.run(options.seed, options.rounds)?;
+    let made = search.run(options.seed, options.rounds, patience)?;
     let trees = search.into_trees();
     let nets = nets_of(alloc, board, width, made.end, &trees)?;
     Ok(Sought {
         rounds: made.rounds,
+        stopped: made.end.is_stopped(),
         nets,
     })
 }

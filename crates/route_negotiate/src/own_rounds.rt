@@ -6,6 +6,7 @@ use crate::own_field::{Grown, OwnField};
 use crate::own_nets::{OwnNet, OwnNets};
 use crate::own_wave::{OwnWave, Price};
 use crate::progress::End;
+use patience::Patience;
 use std::alloc::{AllocError, Global};
 
 /// After so many rounds that brought no gain the search gives up.
@@ -90,12 +91,16 @@ impl<'a> OwnSearch<'a> {
 
     /// Goes on from round to round, and begins anew under another pressure where that may lead
     /// further: whether no wire is taken by two nets behind a round.
-    pub(crate) fn run(&mut self, rounds: u32) -> Result<bool, AllocError> {
+    pub(crate) fn run<P: Patience>(
+        &mut self,
+        rounds: u32,
+        patience: &mut P,
+    ) -> Result<bool, AllocError> {
         for pressure in PRESSURES {
             self.field.clear(pressure.first);
-            match self.under(pressure, rounds)? {
+            match self.under(pressure, rounds, patience)? {
                 End::Routed => return Ok(true),
-                End::Hopeless => return Ok(false),
+                End::Hopeless | End::Stopped => return Ok(false),
                 End::Stalled | End::Spent => {}
             }
         }
@@ -103,12 +108,20 @@ impl<'a> OwnSearch<'a> {
     }
 
     /// Goes on from round to round under a pressure: how the rounds end.
-    fn under(&mut self, pressure: Pressure, rounds: u32) -> Result<End, AllocError> {
+    fn under<P: Patience>(
+        &mut self,
+        pressure: Pressure,
+        rounds: u32,
+        patience: &mut P,
+    ) -> Result<End, AllocError> {
         let mut gain = Gain {
             least: u64::MAX,
             stall: 0,
         };
         for round in 0..rounds {
+            if !patience.goes_on() {
+                return Ok(End::Stopped);
+            }
             if !self.round(round)? {
                 return Ok(End::Hopeless);
             }

@@ -1,5 +1,8 @@
 //! When rounds lead nowhere.
 
+ghost use Rattle.std.specs.Prelude.{◌≡◌, Some, true};
+ghost use Rattle.route_negotiate.specs.declared.progress.End.TheVariants.{Stopped};
+
 use crate::costs::FAR;
 
 /// So many rounds without a gain are too many, where many nets share something.
@@ -19,6 +22,17 @@ pub(crate) enum End {
     Hopeless,
     /// There were as many as may be.
     Spent,
+    /// The caller's patience is over.
+    Stopped,
+}
+
+impl End {
+    /// Whether the caller's patience has ended the rounds.
+    pub(crate) fn is_stopped(self) -> bool
+        ensures { result ≡ true → self ≡ Stopped }
+    {
+        matches!(self, End::Stopped)
+    }
 }
 
 /// How far rounds have come: how many there were, the least excess of nets so far, and for how many
@@ -64,7 +78,9 @@ impl Progress {
     }
 
     /// Whether the rounds end behind one with this excess, and how.
-    pub(crate) fn end(self, excess: u64) -> Option<End> {
+    pub(crate) fn end(self, excess: u64) -> Option<End>
+        ensures { ¬ (result ≡ Some Stopped) }
+    {
         if excess == 0 {
             return Some(End::Routed);
         }

@@ -1,6 +1,7 @@
 //! Rounds of routing, until no wire or pin is taken by two nets.
 
-ghost use Rattle.std.specs.Prelude.{◌≤◌, IfOk};
+ghost use Rattle.std.specs.Prelude.{◌≡◌, ◌≤◌, IfOk};
+ghost use Rattle.route_negotiate.specs.declared.progress.End.TheVariants.{Stopped};
 
 use crate::board::Board;
 use crate::costs::{FAR, PRESENT_FIRST, present_after};
@@ -15,6 +16,7 @@ use crate::sites::has_track;
 use crate::start::first_start;
 use crate::tree::Tree;
 use fpga_types::{Elem, RouteText};
+use patience::Patience;
 use std::alloc::{AllocError, Global};
 use std::mem::swap;
 
@@ -111,15 +113,21 @@ impl<'a> Search<'a> {
     /// Goes on from round to round, and begins anew with another order of start tracks where that
     /// may lead further: how many rounds were made, and how they ended. A net that may have several
     /// wires of a cell is routed from all start tracks at once, so that there is no other order.
-    pub(crate) fn run(&mut self, seed: u32, most: u32) -> Result<Made, AllocError>
-        ensures { IfOk result (λ made. made.rounds ≤ most) }
+    pub(crate) fn run<P: Patience>(
+        &mut self,
+        seed: u32,
+        most: u32,
+        patience: &mut P,
+    ) -> Result<Made, AllocError>
+        ensures rounds { IfOk result (λ made. made.rounds ≤ most) }
+        ensures stopped { IfOk result (λ made. made.end ≡ Stopped → P.is_over patience.new) }
     {
         let mut left = most;
         for turn in 0..most {
             if left == 0 {
                 break;
             }
-            let made = self.try_seed(seed.wrapping_add(turn), left)?;
+            let made = self.try_seed(seed.wrapping_add(turn), left, patience)?;
             left = left.saturating_sub(made.rounds);
             let goes_on = matches!(made.end, End::Stalled) && self.front.is_strict;
             if !goes_on {
@@ -145,10 +153,24 @@ impl<'a> Search<'a> {
         self.whole_rounds = WHOLE_ROUNDS;
     }
 
-    /// Goes through rounds until they end, or there were so many.
-    fn try_seed(&mut self, seed: u32, most: u32) -> Result<Made, AllocError> {
+    /// Goes through rounds until they end, or there were so many, or the patience is over, which is
+    /// asked before each.
+    fn try_seed<P: Patience>(
+        &mut self,
+        seed: u32,
+        most: u32,
+        patience: &mut P,
+    ) -> Result<Made, AllocError>
+        ensures { IfOk result (λ made. made.end ≡ Stopped → P.is_over patience.new) }
+    {
         let mut progress = Progress::new(self.trees.len());
         for round in 0..most {
+            if !patience.goes_on() {
+                return Ok(Made {
+                    rounds: round,
+                    end: End::Stopped,
+                });
+            }
             let excess = self.round(seed, round)?;
             progress = progress.after(excess);
             if let Some(end) = progress.end(excess) {

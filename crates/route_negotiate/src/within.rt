@@ -7,6 +7,7 @@ use crate::fabric::Fabric;
 use crate::own_nets::OwnNets;
 use crate::own_rounds::{OwnSearch, slot_and_track};
 use fpga_types::{Arch, RouteText, Slot};
+use patience::Patience;
 use std::alloc::{AllocError, Global};
 
 /// A wire that a net holds: the number of the slot in whose cell it is, and its track; and over how
@@ -25,7 +26,8 @@ pub struct ReachedWire {
 ///
 /// In each round nets that share a wire are routed anew, one after another, those with most sinks
 /// first: each by the cheapest paths, where a wire costs more the more nets take it, and more from
-/// round to round. The answer is the same wherever and whenever it is asked.
+/// round to round. The patience is asked before each round: where it is over nothing is found.
+/// Where it never is the answer is the same wherever and whenever it is asked.
 ///
 /// No law says which wires are found, nor that they are what was looked for: whoever relies on them
 /// has them judged. A round takes the time of the waves that nets send out, and of the wires;
@@ -34,7 +36,7 @@ pub struct ReachedWire {
 ///
 /// # Errors
 /// Where memory is short.
-pub fn negotiate_within(
+pub fn negotiate_within<P: Patience>(
     alloc: Global,
     arch: &Arch,
     route: &RouteText,
@@ -42,6 +44,7 @@ pub fn negotiate_within(
     width: u32,
     reach: u32,
     rounds: u32,
+    patience: &mut P,
 ) -> Result<Option<Vec<ReachedWire>>, AllocError>
     requires { (1 ≤ width) × (width ≤ WIDTH_LIMIT) }
     ensures { IfOk result (λ found. IfSome found
@@ -50,7 +53,7 @@ pub fn negotiate_within(
     let fabric = Fabric::new(alloc, arch, route.grid, width)?;
     let nets = OwnNets::new(alloc, arch, route, slots, width, fabric.cells())?;
     let mut search = OwnSearch::new(alloc, &fabric, &nets, reach)?;
-    if !search.run(rounds)? {
+    if !search.run(rounds, patience)? {
         return Ok(None);
     }
     let wires = reached_wires(alloc, &search, slots, width, reach)?;

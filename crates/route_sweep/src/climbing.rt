@@ -7,10 +7,10 @@ use crate::asking::Ask;
 use crate::found::{Climbed, Found, Stop};
 use crate::searcher::Searcher;
 use crate::searching::one_width;
+use crate::watch::Watch;
 use desk_io::Shelf;
 use fpga_bounds::PlacedProblem;
 use fpga_types::WIDTH_LIMIT;
-use patience::Patience;
 use route_encode::Encoder;
 use std::alloc::Global;
 
@@ -21,7 +21,7 @@ use std::alloc::Global;
 ///
 /// # Errors
 /// What the search at a width answers. The files of the widths below stay.
-pub fn climb<W: Searcher, E: Encoder, S: Shelf, P: Patience>(
+pub fn climb<W: Searcher, E: Encoder, S: Shelf, P: Watch>(
     alloc: Global,
     way: &W,
     encoder: &E,

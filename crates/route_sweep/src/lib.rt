@@ -8,6 +8,7 @@ mod found;
 mod names;
 mod searcher;
 mod searching;
+mod watch;
 mod writing;
 
 pub use asking::Ask;
@@ -16,4 +17,5 @@ pub use climbing::climb;
 pub use found::{Climbed, FileSlot, Found, Stop};
 pub use searcher::{Ended, Searcher};
 pub use searching::one_width;
+pub use watch::Watch;
 pub use writing::{write_proof, write_routing};

@@ -8,9 +8,9 @@ ghost use Rattle.sat_clause.specs.Step.{Step};
 ghost use Rattle.route_sweep.specs.Ended.{EndsShort, HasEnded};
 ghost use Rattle.route_sweep.specs.Found.{HasFew};
 
+use crate::watch::Watch;
 use fpga_bounds::PlacedProblem;
 use fpga_types::WIDTH_LIMIT;
-use patience::Patience;
 use sat_clause::{Formula, Log};
 use std::alloc::{AllocError, Global};
 
@@ -51,7 +51,7 @@ pub trait Searcher {
     ///
     /// # Errors
     /// Where memory is short.
-    fn search<P: Patience>(
+    fn search<P: Watch>(
         &self,
         alloc: Global,
         problem: &PlacedProblem,

@@ -7,11 +7,11 @@ use crate::asking::Ask;
 use crate::building::few_clauses;
 use crate::found::{Found, Stop};
 use crate::searcher::{Ended, Searcher};
+use crate::watch::Watch;
 use crate::writing::{write_proof, write_routing};
 use desk_io::Shelf;
 use fpga_bounds::PlacedProblem;
 use fpga_types::WIDTH_LIMIT;
-use patience::Patience;
 use route_encode::Encoder;
 use std::alloc::Global;
 
@@ -20,13 +20,14 @@ use std::alloc::Global;
 ///
 /// The clauses are counted first, and none is built where there are more than 40,000,000 in all
 /// copies that the way holds. Files of other names stay as they are. The width is left open before
-/// the budget is spent only where the caller has said that the search may not go on.
+/// the budget is spent only where the caller has said that the search may not go on. It is told
+/// of the width, of the clauses once they are built, and of the routing before that is written.
 ///
 /// # Errors
 /// `Fault` names the file on which the shelf failed; it and those that were written before it stand
 /// as far as they were written. `TooManyClauses` and `TooManyHeld` have the number of the clauses,
 /// and `Memory` comes where memory is short: nothing was written then.
-pub fn one_width<W: Searcher, E: Encoder, S: Shelf, P: Patience>(
+pub fn one_width<W: Searcher, E: Encoder, S: Shelf, P: Watch>(
     alloc: Global,
     way: &W,
     encoder: &E,
@@ -46,15 +47,18 @@ pub fn one_width<W: Searcher, E: Encoder, S: Shelf, P: Patience>(
         (E.is_good encoder.now problem.now width) (S.state shelf.old) (S.state shelf.new) result }
     ensures stopped { FindsShort (W.budget way.now) result → P.is_over patience.new }
 {
+    patience.told_width(width);
     let formula = match few_clauses(alloc, way.copy_count(), encoder, problem, width) {
         Ok(formula) => formula,
         Err(stop) => return Err(stop),
     };
+    patience.told_clauses(&formula);
     match way.search(alloc, problem, width, &formula, patience) {
         Ok(Ended::Model { values }) => {
             let Ok(found) = encoder.decode(alloc, problem, width, &values) else {
                 return Err(Stop::Memory);
             };
+            patience.told_route(&found);
             write_routing(alloc, &found, ask, shelf).and(Ok(Found::Routed))
         }
         Ok(Ended::Refuted { log, lead }) => {

@@ -1,10 +1,9 @@
 //! Counting in front of another way.
 
 use fpga_bounds::PlacedProblem;
-use patience::Patience;
 use problem_facts::Facts;
 use route_count::counted_out;
-use route_sweep::{Ended, Searcher};
+use route_sweep::{Ended, Searcher, Watch};
 use sat_clause::Formula;
 use std::alloc::{AllocError, Global};
 
@@ -42,7 +41,7 @@ impl<'a, R: Searcher> Searcher for Counting<'a, R> {
         self.rest.copy_count()
     }
 
-    fn search<P: Patience>(
+    fn search<P: Watch>(
         &self,
         alloc: Global,
         problem: &PlacedProblem,
@@ -55,6 +54,7 @@ impl<'a, R: Searcher> Searcher for Counting<'a, R> {
         };
         match found {
             Some(log) => {
+                patience.told_log(&log);
                 let lead = Vec::new(alloc);
                 Ok(Ended::Refuted { log, lead })
             }

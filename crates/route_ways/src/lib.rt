@@ -7,6 +7,7 @@ mod counting;
 mod negotiating;
 mod plain;
 mod trimming;
+mod unlimited;
 mod way;
 mod wires;
 

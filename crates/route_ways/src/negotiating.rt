@@ -6,7 +6,7 @@ ghost use Rattle.sat_clause.specs.Formula.{Satisfies};
 use fpga_bounds::PlacedProblem;
 use patience::Patience;
 use route_negotiate::{ReachedWire, negotiate_within};
-use route_sweep::{Ended, Searcher};
+use route_sweep::{Ended, Searcher, Watch};
 use sat_clause::{Formula, holds};
 use std::alloc::{AllocError, Global};
 
@@ -85,19 +85,20 @@ fn values_of(
 }
 
 // Values that satisfy the clauses, if wires are found for all nets that say such ones.
-fn negotiated(
+fn negotiated<P: Patience>(
     alloc: Global,
     problem: &PlacedProblem,
     width: u32,
     reach: u32,
     formula: &Formula,
+    patience: &mut P,
 ) -> Result<Option<Vec<bool>>, AllocError>
     requires { (1 ≤ width) × (width ≤ WIDTH_LIMIT) }
     ensures { IfOk result
         (λ found. IfSome found (λ values. Satisfies values.items formula.now.cnf)) }
 {
     let (arch, route, slots) = (problem.arch(), problem.route(), problem.slots());
-    let found = negotiate_within(alloc, arch, route, slots, width, reach, ROUNDS)?;
+    let found = negotiate_within(alloc, arch, route, slots, width, reach, ROUNDS, patience)?;
     let Some(wires) = found else {
         return Ok(None);
     };
@@ -128,7 +129,7 @@ impl<R: Searcher> Searcher for Negotiating<R> {
         self.rest.copy_count()
     }
 
-    fn search<P: Patience>(
+    fn search<P: Watch>(
         &self,
         alloc: Global,
         problem: &PlacedProblem,
@@ -136,7 +137,7 @@ impl<R: Searcher> Searcher for Negotiating<R> {
         formula: &Formula,
         patience: &mut P,
     ) -> Result<Ended, AllocError> {
-        let Ok(found) = negotiated(alloc, problem, width, self.reach, formula) else {
+        let Ok(found) = negotiated(alloc, problem, width, self.reach, formula, patience) else {
             return Err(AllocError);
         };
         match found {

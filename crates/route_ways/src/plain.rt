@@ -6,10 +6,11 @@ ghost use Rattle.sat_core.specs.declared.answer.Answer.TheVariants.{Stopped};
 
 use crate::added::added;
 use crate::trimming::Learner;
+use crate::unlimited::Unlimited;
 use crate::wires::Wires;
 use fpga_bounds::PlacedProblem;
-use patience::{Forever, Patience};
-use route_sweep::{Ended, Searcher};
+use patience::Patience;
+use route_sweep::{Ended, Searcher, Watch};
 use sat_clause::{Formula, Log};
 use sat_core::Answer;
 use sat_merge::solve_merged;
@@ -113,8 +114,9 @@ impl Plain {
         }
     }
 
-    // The same, where the caller is asked only if it may stop the search.
-    fn solve_limited<P: Patience>(
+    // The same, where the caller is asked only if it may stop the search, and else told how often
+    // it would have been. What it was asked before was no restart.
+    fn solve_limited<P: Watch>(
         &self,
         alloc: Global,
         formula: &Formula,
@@ -129,11 +131,36 @@ impl Plain {
         ensures stopped { IfOk result (λ answer. answer ≡ Stopped → P.is_over patience.new) }
     {
         if self.limited {
+            patience.told_restarts(0);
             return self.solve(alloc, formula, patience, log);
         }
-        let Ok(answer) = self.solve(alloc, formula, &mut Forever, log) else {
+        let mut unlimited = Unlimited { asked: 0 };
+        let Ok(answer) = self.solve(alloc, formula, &mut unlimited, log) else {
             return Err(AllocError);
         };
+        patience.told_restarts(unlimited.asked);
+        Ok(answer)
+    }
+
+    // The same, whose caller is told of the log.
+    fn solve_told<P: Watch>(
+        &self,
+        alloc: Global,
+        formula: &Formula,
+        patience: &mut P,
+        log: &mut Log,
+    ) -> Result<Answer, AllocError>
+        requires able { CanSearch self.now }
+        requires ids { length formula.now.cnf.clauses + self.now.budget ≤ ID_LIMIT }
+        requires fresh { log.old.steps ≡ [] }
+        ensures searched { IfOk result (HasSearched self.now formula.now.cnf log.new.steps) }
+        ensures limited { IfOk result (λ answer. answer ≡ Stopped → IsTrue self.now.limited) }
+        ensures stopped { IfOk result (λ answer. answer ≡ Stopped → P.is_over patience.new) }
+    {
+        let Ok(answer) = self.solve_limited(alloc, formula, patience, log) else {
+            return Err(AllocError);
+        };
+        patience.told_log(log);
         Ok(answer)
     }
 }
@@ -155,7 +182,7 @@ impl Searcher for Plain {
         self.solver.copies()
     }
 
-    fn search<P: Patience>(
+    fn search<P: Watch>(
         &self,
         alloc: Global,
         problem: &PlacedProblem,
@@ -164,7 +191,7 @@ impl Searcher for Plain {
         patience: &mut P,
     ) -> Result<Ended, AllocError> {
         let mut log = Log::new(alloc);
-        match self.solve_limited(alloc, formula, patience, &mut log) {
+        match self.solve_told(alloc, formula, patience, &mut log) {
             Ok(Answer::Model(values)) => Ok(Ended::Model { values }),
             Ok(Answer::Refuted) => {
                 let lead = Vec::new(alloc);

@@ -15,9 +15,8 @@ ghost use Rattle.sat_text.specs.Printed.{log_text};
 
 use fpga_bounds::PlacedProblem;
 use fpga_types::RouteText;
-use patience::Patience;
 use route_core::{blame_in, trim, trimmed_is_its_own};
-use route_sweep::{Ended, Searcher};
+use route_sweep::{Ended, Searcher, Watch};
 use sat_clause::{Formula, Log};
 use std::alloc::{AllocError, Global};
 
@@ -122,7 +121,7 @@ impl<R: Learner> Searcher for Trimming<R> {
         self.rest.copy_count()
     }
 
-    fn search<P: Patience>(
+    fn search<P: Watch>(
         &self,
         alloc: Global,
         problem: &PlacedProblem,

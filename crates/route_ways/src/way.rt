@@ -4,8 +4,7 @@ use crate::negotiating::Negotiating;
 use crate::plain::Plain;
 use crate::trimming::Trimming;
 use fpga_bounds::PlacedProblem;
-use patience::Patience;
-use route_sweep::{Ended, Searcher};
+use route_sweep::{Ended, Searcher, Watch};
 use sat_clause::Formula;
 use std::alloc::{AllocError, Global};
 
@@ -44,7 +43,7 @@ impl<'a> Searcher for Way<'a> {
         }
     }
 
-    fn search<P: Patience>(
+    fn search<P: Watch>(
         &self,
         alloc: Global,
         problem: &PlacedProblem,

@@ -2,6 +2,8 @@
 //! standard error what it came to where that was not what was asked for, and why a bound is one.
 #![tactic(auto)]
 
+mod memory;
+mod meter;
 mod progress;
 mod stopwatch;
 
@@ -10,9 +12,11 @@ use crate::stopwatch::Stopwatch;
 use desk_io::{FileDesk, FileShelf};
 use router_says::{SystemErrors, append_words};
 use router_top::{Ran, run, status};
+use router_words::asks_stats;
+use run_stats::stats_line;
 use std::io::IsTerminal;
 use std::process::ExitCode;
-use std::rt::{Env, Files};
+use std::rt::{Clock, Env, Files};
 use std::{env, io};
 
 // The status where the system does not give the words.
@@ -51,11 +55,29 @@ fn say<R: Files + AllocGlobal + Eprint>(
     }
 }
 
+// Says the numbers of the run behind all else, if they are asked for, and there is memory for that
+// and someone to take them.
+fn say_stats<R: AllocGlobal + Clock + Files + Eprint>(
+    rt: &R,
+    clock: &mut Stopwatch<'_, R>,
+    ran: &Ran,
+) {
+    let Some(stats) = clock.end(rt.alloc(), &ran.problem) else {
+        return;
+    };
+    if let Ok(line) = stats_line(rt.alloc(), &stats) {
+        let _ = eprint!(rt; "{line}");
+    }
+}
+
 fn main(rt: HostRuntime) -> ExitCode {
     let mut clock = Stopwatch::new(&rt);
     let Ok(words) = given_words(&rt) else {
         return ExitCode::from(NO_WORDS);
     };
+    if let Ok(true) = asks_stats(rt.alloc(), &words) {
+        clock.measure();
+    }
     let mut desk = FileDesk::new(&rt);
     let mut shelf = ProgressShelf::new(&rt, FileShelf::new(&rt), tells_progress(&rt));
     let ran = run(rt.alloc(), &words, &mut desk, &mut shelf, &mut clock);
@@ -65,5 +87,6 @@ fn main(rt: HostRuntime) -> ExitCode {
         saying: shelf.shelf().say_error(),
     };
     say(&rt, &mut desk, &words, &ran, errors);
+    say_stats(&rt, &mut clock, &ran);
     ExitCode::from(status(&ran.outcome))
 }

@@ -310,8 +310,8 @@ Says before now words asked errors problem (Narrowed tracks width cut) said =
     JustSays before now (narrowed_said asked tracks width cut) said
 Says before now words asked errors problem (Beyond tracks cells nets) said =
     JustSays before now (bound_said tracks cells nets) said
-Says before now words asked errors problem (Unfound width rounds) said =
-    JustSays before now (unfound_said asked width rounds) said
+Says before now words asked errors problem (Unfound width rounds stopped) said =
+    JustSays before now (unfound_said asked width rounds stopped) said
 Says before now words asked errors problem (NoWay width) said =
     JustSays before now (no_way_said width) said
 Says before now words asked errors problem (Usage code) said =

@@ -112,11 +112,15 @@ pub(crate) const ROUNDS_ROUTE: &str = "Whether there is a route with ";
 
 pub(crate) const ROUNDS_OPEN: &str = " tracks is open: the search found none in ";
 
-pub(crate) const ROUNDS_MADE: &str = " rounds.";
+pub(crate) const ROUNDS_MADE: &str = " rounds";
+
+pub(crate) const ROUNDS_STOPPED: &str = " before its time was over.";
 
 pub(crate) const ROUNDS_TRY: &str = "\nTry";
 
 pub(crate) const ROUNDS_MORE: &str = " --rounds ";
+
+pub(crate) const ROUNDS_TIME: &str = " more --seconds,";
 
 pub(crate) const ROUNDS_FREE: &str = " --free,";
 

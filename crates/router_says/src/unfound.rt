@@ -4,10 +4,12 @@ ghost use Rattle.router_says.specs.Names.{asked};
 ghost use Rattle.router_says.specs.Unfound.{
   freer_said,
   is_free,
+  more_effort_said,
   more_rounds_said,
   no_way_said,
   others_said,
   rounds_asked,
+  rounds_end_said,
   rounds_said,
   tries_said,
   try_rounds_said,
@@ -21,18 +23,20 @@ use fpga_types::WIDTH_LIMIT;
 use router_words::{Job, ROUND_LIMIT};
 use std::alloc::AllocError;
 
-/// Appends that a width is open, since rounds have found no route, and what can be tried.
+/// Appends that a width is open, since rounds have found no route, which the clock may have ended,
+/// and what can be tried.
 pub(crate) fn append_unfound(
     out: &mut String,
     job: Option<Job<'_>>,
     width: u32,
     rounds: u32,
+    stopped: bool,
 ) -> Result<(), AllocError>
     ensures { OnOk result (string_bytes out.new
-        ≡ string_bytes out.old ++ unfound_said (asked job.entry) width rounds) }
+        ≡ string_bytes out.old ++ unfound_said (asked job.entry) width rounds stopped) }
 {
-    append_rounds(out, width, rounds)?;
-    append_tries(out, is_free(job), rounds_asked(job), width, rounds)?;
+    append_rounds(out, width, rounds, rounds_end(stopped))?;
+    append_tries(out, is_free(job), stopped, rounds_asked(job), width, rounds)?;
     Ok(())
 }
 
@@ -47,15 +51,16 @@ pub(crate) fn append_no_way(out: &mut String, width: u32) -> Result<(), AllocErr
 fn append_tries(
     out: &mut String,
     free: bool,
+    stopped: bool,
     most: u32,
     width: u32,
     rounds: u32,
 ) -> Result<(), AllocError>
-    ensures { OnOk result
-        (string_bytes out.new ≡ string_bytes out.old ++ tries_said free most width rounds) }
+    ensures { OnOk result (string_bytes out.new
+        ≡ string_bytes out.old ++ tries_said free stopped most width rounds) }
 {
     out.push_str(ROUNDS_TRY)?;
-    append_more_rounds(out, most, rounds)?;
+    append_more_effort(out, stopped, most, rounds)?;
     append_others(out, free, width)?;
     Ok(())
 }
@@ -70,15 +75,38 @@ fn append_others(out: &mut String, free: bool, width: u32) -> Result<(), AllocEr
     Ok(())
 }
 
-// In how many rounds none was found.
-fn append_rounds(out: &mut String, width: u32, rounds: u32) -> Result<(), AllocError>
+// In how many rounds none was found, with this at the end.
+fn append_rounds(out: &mut String, width: u32, rounds: u32, end: &str) -> Result<(), AllocError>
     ensures { OnOk result
-        (string_bytes out.new ≡ string_bytes out.old ++ rounds_said width rounds) }
+        (string_bytes out.new ≡ string_bytes out.old ++ rounds_said width rounds end.now) }
 {
     write!(
         out,
-        "{ROUNDS_ROUTE}{width}{ROUNDS_OPEN}{rounds}{ROUNDS_MADE}"
+        "{ROUNDS_ROUTE}{width}{ROUNDS_OPEN}{rounds}{ROUNDS_MADE}{end}"
     )
+}
+
+// What has ended the rounds, where the clock has.
+fn rounds_end(stopped: bool) -> &'static str
+    ensures { result.now ≡ rounds_end_said stopped }
+{
+    if stopped { ROUNDS_STOPPED } else { "." }
+}
+
+// That more time can be tried, where the clock has ended the rounds, or else how many of them.
+fn append_more_effort(
+    out: &mut String,
+    stopped: bool,
+    most: u32,
+    rounds: u32,
+) -> Result<(), AllocError>
+    ensures { OnOk result (string_bytes out.new
+        ≡ string_bytes out.old ++ more_effort_said stopped most rounds) }
+{
+    if stopped {
+        return out.push_str(ROUNDS_TIME);
+    }
+    append_more_rounds(out, most, rounds)
 }
 
 // How many rounds can be tried next, if all that there might be were made and the words take more.

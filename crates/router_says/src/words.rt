@@ -126,7 +126,11 @@ fn append_meaning<D: Desk>(
         Outcome::Narrowed { tracks, width, cut } => {
             append_narrowed(out, job, tracks, width, cut)
         }
-        Outcome::Unfound { width, rounds } => append_unfound(out, job, width, rounds),
+        Outcome::Unfound {
+            width,
+            rounds,
+            stopped,
+        } => append_unfound(out, job, width, rounds, stopped),
         Outcome::NoWay { width } => append_no_way(out, width),
         Outcome::Usage { code } => append_usage(out, words, code),
         Outcome::ReadFault { file } => append_unread(out, job, file, errors.reading),

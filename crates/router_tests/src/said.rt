@@ -82,6 +82,7 @@ fn all_that_is_said(rt: HostRuntime) -> Result<(), Fail> {
             Outcome::Unfound {
                 width: 9,
                 rounds: 500,
+                stopped: false,
             },
             "Whether there is a route with 9 tracks is open: the search found none in 500 rounds.\n\
             Try --rounds 5000, --free, a greater width or another placement.\n",
@@ -91,6 +92,7 @@ fn all_that_is_said(rt: HostRuntime) -> Result<(), Fail> {
             Outcome::Unfound {
                 width: 9,
                 rounds: 40,
+                stopped: false,
             },
             "Whether there is a route with 9 tracks is open: the search found none in 40 rounds.\n\
             Try --free, a greater width or another placement.\n",
@@ -100,9 +102,21 @@ fn all_that_is_said(rt: HostRuntime) -> Result<(), Fail> {
             Outcome::Unfound {
                 width: 64,
                 rounds: 100_000,
+                stopped: false,
             },
             "Whether there is a route with 64 tracks is open: the search found none in 100000 \
             rounds.\nTry another placement.\n",
+        ),
+        (
+            GLOBAL,
+            Outcome::Unfound {
+                width: 9,
+                rounds: 40,
+                stopped: true,
+            },
+            "Whether there is a route with 9 tracks is open: the search found none in 40 rounds \
+            before its time was over.\nTry more --seconds, --free, a greater width or another \
+            placement.\n",
         ),
         (
             GLOBAL,

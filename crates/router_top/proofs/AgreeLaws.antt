@@ -222,7 +222,7 @@ judge-agrees : (job : JudgeAsked) (files : FileMap) (a b : Outcome)
     → JudgesPlaced (IsHalted (Some files)) (Some files) job (IsJudgement job) a
     → JudgesPlaced (IsHalted (Some files)) (Some files) job (IsJudgement job) b → Agrees false a b
 judge-agrees job files a b h g =
-    placed-agrees files job.files
+    placed-agrees false files job.files
     (ReadsRouted (IsHalted (Some files)) (Some files) job (IsJudgement job)) a b h g
     (λ placed h g. inl (reads-alike files h g (λ found is other. is ∙ sym other)))
 
@@ -332,9 +332,9 @@ job-agrees crowd (Checks job) files a b h g = inl (check-agrees job files a b h 
 job-agrees crowd (Verifies job) files a b h g = verify-agrees job files a b h g
 job-agrees crowd (Judges job) files a b h g = judge-agrees job files a b h g
 job-agrees crowd (Bounds job) files a b h g =
-    placed-agrees files job.files IsTrueOfCut a b h g (λ placed h g. bounds-agree placed a b h g)
-job-agrees crowd (Negotiates job) files a b h g = global-agrees job files a b h g
-job-agrees crowd (Narrows job) files a b h g = least-agrees job files a b h g
+    placed-agrees false files job.files IsTrueOfCut a b h g (λ placed h g. bounds-agree placed a b h g)
+job-agrees crowd (Negotiates job) files a b h g = global-agrees (is_some job.seconds) job files a b h g
+job-agrees crowd (Narrows job) files a b h g = least-agrees (is_some job.seconds) job files a b h g
 job-agrees crowd (Generates job) files a b h g =
     recipe-agrees job.recipe (λ said. said ≡ Done) a b h g (λ s t. inl (s ∙ sym t))
 job-agrees crowd (Tries job) files a b h g = trial-agrees crowd job (Some files) a b h g

@@ -106,7 +106,7 @@ spared-boundless o spared = λ bad. bad
 spared-spanless : (o : Outcome) → IsSpared o → ¬ IsNarrowing o
 spared-spanless (Narrowed tracks width by_cut) spared = absurd spared
 spared-spanless (Beyond tracks cells nets) spared = absurd spared
-spared-spanless (Unfound width rounds) spared = absurd spared
+spared-spanless (Unfound width rounds stopped) spared = absurd spared
 spared-spanless o spared = λ bad. bad
 
 -- nor of a net that no wires reach
@@ -1151,7 +1151,7 @@ module _ (words : List Word) (at : Scene) where
     found-came : (placed : PlacedNetlist) → HasFiles at.desk.files job placed
         → AreNetsReached placed job.width → (o : Outcome)
         → LeavesFound job placed at.shelf at.shelf_now o → Came words at o
-    found-came placed has reached o (inl (inl (rounds, most, none), same)) = subst (Came words at) (sym none) (Told (record {
+    found-came placed has reached o (inl (inl (rounds, stopped, most, limit, none), same)) = subst (Came words at) (sym none) (Told (record {
       fileless = tt;
       files = ap (λ (s : ShelfState). s.files) same;
       faults = ap (λ (s : ShelfState). s.faults) same;
@@ -1173,13 +1173,14 @@ module _ (words : List Word) (at : Scene) where
         asked = asked;
         width_is = refl;
         rounds_most = most;
+        timed = limit;
         placed = placed;
         files = has;
         reached = reached;
         same = ap (λ (s : ShelfState). s.files) same;
       });
-      told = inl (global-true placed has (Unfound job.width rounds)
-          (inr (reached, inr (rounds, most, refl))));
+      told = inl (global-true placed has (Unfound job.width rounds stopped)
+          (inr (reached, inr (rounds, stopped, most, limit, refl))));
     }))
     found-came placed has reached o (inl (inr short, same)) = spent o same (λ other is. cc) short
     found-came placed has reached o (inr (found, route, h)) = Wrote (record {
@@ -1355,17 +1356,18 @@ module _ (words : List Word) (at : Scene) where
             same = ap (λ (s : ShelfState). s.files) same;
           })
           (inl (least-true placed has (beyond_outcome cut) (cut, best, inl (inl (above, refl))))))
-      widths-came o (inl (inl (inr (within, (rounds, most, is))), same)) = subst (Came words at)
-          (sym is) (told-cut (Unfound job.last rounds) same tt within (inr (record {
+      widths-came o (inl (inl (inr (within, (rounds, stopped, most, limit, is))), same)) = subst (Came words at)
+          (sym is) (told-cut (Unfound job.last rounds stopped) same tt within (inr (record {
             cut = cut;
             least = cut-of-least;
             width_is = refl;
             rounds_most = most;
+            timed = limit;
             within = within;
             same = ap (λ (s : ShelfState). s.files) same;
           }))
-          (inl (least-true placed has (Unfound job.last rounds)
-          (cut, best, inl (inr (within, (rounds, most, refl)))))))
+          (inl (least-true placed has (Unfound job.last rounds stopped)
+          (cut, best, inl (inr (within, (rounds, stopped, most, limit, refl)))))))
       widths-came o (inl (inr short, same)) = subst (Came words at) (sym short)
           (told-cut OutOfMemory same tt tt tt (inr refl))
       widths-came o (inr (raised, found, is, h)) = Wrote (record {

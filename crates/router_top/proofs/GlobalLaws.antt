@@ -1,7 +1,7 @@
 -- What keeps a search for a route of a placement from its work is one thing; what is found says a
 -- routing, and two outcomes that are true of the same files agree.
-use Rattle.std.proofs.Common.{false, ◌≡◌, ◌∙◌, ◌⊎◌, ℕ, Option, Some, None, sym, subst, inl, inr, refl, arith}
-use Rattle.std.specs.Prelude.{not}
+use Rattle.std.proofs.Common.{Bool, ◌≡◌, ◌∙◌, ◌⊎◌, ℕ, Option, Some, None, sym, subst, inl, inr, refl, arith}
+use Rattle.std.specs.Prelude.{is_some, not}
 use Rattle.desk_io.specs.Files.{HasRisen}
 use Rattle.fpga_problem.proofs.FileLemmas.{one-placed, placed-lack-poses}
 use Rattle.fpga_problem.proofs.SourceLemmas.{calm-stops, halted-says, stops-alike}
@@ -63,10 +63,10 @@ module _ (files : FileMap) where
   no-start (Some name) a h has = halted-says files h.fault h.because has.1
 
   -- what keeps files from giving something is told in one way
-  pub lacking-agrees : (job : GlobalAsked) (a b : Outcome) → Lacks job a → Lacks job b
-      → Agrees false a b
-  lacking-agrees job a b h g =
-      placed-agrees files job.files (λ placed. LacksStart (IsHalted (Some files)) job.from) a b h g
+  pub lacking-agrees : (timed : Bool) (job : GlobalAsked) (a b : Outcome) → Lacks job a → Lacks job b
+      → Agrees timed a b
+  lacking-agrees timed job a b h g =
+      placed-agrees timed files job.files (λ placed. LacksStart (IsHalted (Some files)) job.from) a b h g
       (λ placed u v. inl (one-start job.from a b u v))
 
   -- files that give all are not kept from it
@@ -89,31 +89,32 @@ routing-said files job placed found has route =
     has.sound.netlist has.sound.placement) route.legal
 
 -- that none was found leaves the width of one that was found open
-open-at : (job : GlobalAsked) (a b : Outcome) → EndsUnfound job.width job.rounds a
-    → b ≡ Routed job.width → IsOpenBelow false a b
-open-at job a b (rounds, most, none) is =
-    subst (λ (o : Outcome). IsOpenBelow false o b) (sym none)
-    (subst (IsOpenBelow false (Unfound job.width rounds)) (sym is) (omega arith))
+open-at : (timed : Bool) (job : GlobalAsked) (a b : Outcome) → EndsUnfound (is_some job.seconds) job.width job.rounds a
+    → b ≡ Routed job.width → IsOpenBelow timed a b
+open-at timed job a b (rounds, stopped, most, limit, none) is =
+    subst (λ (o : Outcome). IsOpenBelow timed o b) (sym none)
+    (subst (IsOpenBelow timed (Unfound job.width rounds stopped)) (sym is) (omega arith))
 
 -- so does one after other rounds
-pub open-both : (width most : ℕ) (a b : Outcome) → EndsUnfound width most a → EndsUnfound width most b
-    → IsOpenBelow false a b
-open-both width most a b (rounds, few, none) (others, few_too, is) =
-    subst (λ (o : Outcome). IsOpenBelow false o b) (sym none)
-    (subst (IsOpenBelow false (Unfound width rounds)) (sym is) refl)
+pub open-both : (timed limited : Bool) (width most : ℕ) (a b : Outcome)
+    → EndsUnfound limited width most a → EndsUnfound limited width most b → IsOpenBelow timed a b
+open-both timed limited width most a b (rounds, stopped, few, limit, none)
+    (others, other_stopped, few_too, other_limit, is) =
+    subst (λ (o : Outcome). IsOpenBelow timed o b) (sym none)
+    (subst (IsOpenBelow timed (Unfound width rounds stopped)) (sym is) refl)
 
 -- outcomes that are true of one placed netlist agree: they are one, or no route was found for the
 -- one and some was for the other
-found-agrees : (job : GlobalAsked) (placed : PlacedNetlist) (a b : Outcome)
-    → IsTrueOfFound job placed a → IsTrueOfFound job placed b → Agrees false a b
-found-agrees job placed a b (inl (found, route, is)) (inl (other, others, is_other)) =
+found-agrees : (timed : Bool) (job : GlobalAsked) (placed : PlacedNetlist) (a b : Outcome)
+    → IsTrueOfFound job placed a → IsTrueOfFound job placed b → Agrees timed a b
+found-agrees timed job placed a b (inl (found, route, is)) (inl (other, others, is_other)) =
     inl (is ∙ sym is_other)
-found-agrees job placed a b (inl (found, route, is)) (inr none) =
-    inr (inr (inl (open-at job b a none is)))
-found-agrees job placed a b (inr none) (inl (found, route, is)) =
-    inr (inl (open-at job a b none is))
-found-agrees job placed a b (inr none) (inr others) =
-    inr (inl (open-both job.width job.rounds a b none others))
+found-agrees timed job placed a b (inl (found, route, is)) (inr none) =
+    inr (inr (inl (open-at timed job b a none is)))
+found-agrees timed job placed a b (inr none) (inl (found, route, is)) =
+    inr (inl (open-at timed job a b none is))
+found-agrees timed job placed a b (inr none) (inr others) =
+    inr (inl (open-both timed (is_some job.seconds) job.width job.rounds a b none others))
 
 -- wires reach each sink, or there is one that they do not
 not-unreached : (placed : PlacedNetlist) (width : ℕ) (first : Unreached)
@@ -124,24 +125,24 @@ not-unreached placed width first h reached =
     sink.is_pin sink.at sink.is_there)
 
 -- so do those that are true of it before a search, of which one alone says that there is no way
-sought-agrees : (job : GlobalAsked) (placed : PlacedNetlist) (a b : Outcome)
-    → IsTrueOfSought job placed a → IsTrueOfSought job placed b → Agrees false a b
-sought-agrees job placed a b (inl (first, none, is)) (inl (other, none_too, is_other)) =
+sought-agrees : (timed : Bool) (job : GlobalAsked) (placed : PlacedNetlist) (a b : Outcome)
+    → IsTrueOfSought job placed a → IsTrueOfSought job placed b → Agrees timed a b
+sought-agrees timed job placed a b (inl (first, none, is)) (inl (other, none_too, is_other)) =
     inl (is ∙ sym is_other)
-sought-agrees job placed a b (inl (first, none, is)) (inr (reached, h)) =
+sought-agrees timed job placed a b (inl (first, none, is)) (inr (reached, h)) =
     absurd (not-unreached placed job.width first none reached)
-sought-agrees job placed a b (inr (reached, h)) (inl (first, none, is)) =
+sought-agrees timed job placed a b (inr (reached, h)) (inl (first, none, is)) =
     absurd (not-unreached placed job.width first none reached)
-sought-agrees job placed a b (inr (reached, h)) (inr (reached_too, g)) =
-    found-agrees job placed a b h g
+sought-agrees timed job placed a b (inr (reached, h)) (inr (reached_too, g)) =
+    found-agrees timed job placed a b h g
 
-pub global-agrees : (job : GlobalAsked) (files : FileMap) (a b : Outcome)
-    → IsTrueOfGlobal job (Some files) a → IsTrueOfGlobal job (Some files) b → Agrees false a b
-global-agrees job files a b (inl h) (inl g) = lacking-agrees files job a b h g
-global-agrees job files a b (inl h) (inr (placed, has, g)) =
+pub global-agrees : (timed : Bool) (job : GlobalAsked) (files : FileMap) (a b : Outcome)
+    → IsTrueOfGlobal job (Some files) a → IsTrueOfGlobal job (Some files) b → Agrees timed a b
+global-agrees timed job files a b (inl h) (inl g) = lacking-agrees files timed job a b h g
+global-agrees timed job files a b (inl h) (inr (placed, has, g)) =
     absurd (lacking-has files job placed a h has)
-global-agrees job files a b (inr (placed, has, h)) (inl g) =
+global-agrees timed job files a b (inr (placed, has, h)) (inl g) =
     absurd (lacking-has files job placed b g has)
-global-agrees job files a b (inr (placed, has, h)) (inr (other, others, g)) =
-    sought-agrees job placed a b h (subst (λ (p : PlacedNetlist). IsTrueOfSought job p b)
+global-agrees timed job files a b (inr (placed, has, h)) (inr (other, others, g)) =
+    sought-agrees timed job placed a b h (subst (λ (p : PlacedNetlist). IsTrueOfSought job p b)
     (one-placed files job.files other placed others.poses has.poses) g)

@@ -1,6 +1,7 @@
 -- What keeps work on what a placement needs from its end, what its widths tell of each other, and
 -- that two outcomes that are true of the same files agree.
-use Rattle.std.proofs.Common.{false, ◌≡◌, ℕ, ◌<◌, ◌≤◌, Option, Some, sym, subst, inl, inr, arith}
+use Rattle.std.proofs.Common.{Bool, ◌≡◌, ℕ, ◌<◌, ◌≤◌, Option, Some, sym, subst, inl, inr, arith}
+use Rattle.std.specs.Prelude.{is_some}
 use Rattle.fpga_problem.proofs.FileLemmas.{one-placed}
 use Rattle.fpga_types.specs.Placed.{NetWires}
 use Rattle.fpga_types.specs.Problem.{PlacedNetlist}
@@ -68,30 +69,30 @@ raised-leaves job placed cut raised before now o from within (inr (at, found, h)
 
 -- ---- outcomes of one placed netlist
 
-module _ (files : FileMap) (job : LeastAsked) (placed : PlacedNetlist)
+module _ (timed : Bool) (files : FileMap) (job : LeastAsked) (placed : PlacedNetlist)
     (h : HasFiles (Some files) (last_asked job) placed) where
   -- two outcomes, each known by an equation
-  both : (a b : Outcome) (one other : Outcome) → a ≡ one → b ≡ other → Agrees false one other
-      → Agrees false a b
-  both a b one other is is_other agree = subst (λ (o : Outcome). Agrees false o b) (sym is)
-      (subst (Agrees false one) (sym is_other) agree)
+  both : (a b : Outcome) (one other : Outcome) → a ≡ one → b ≡ other → Agrees timed one other
+      → Agrees timed a b
+  both a b one other is is_other agree = subst (λ (o : Outcome). Agrees timed o b) (sym is)
+      (subst (Agrees timed one) (sym is_other) agree)
 
-  of-one : (one other : Outcome) → AreOfOne one other → Agrees false one other
+  of-one : (one other : Outcome) → AreOfOne one other → Agrees timed one other
   of-one one other are = inr (inr (inr (inr are)))
 
   open-agree : (cut others : Cut) (a b : Outcome) → EndsOpen job cut a → EndsOpen job others b
-      → Agrees false a b
+      → Agrees timed a b
   open-agree cut others a b (inl (above, is)) (inl (above_too, is_other)) =
       both a b (beyond_outcome cut) (beyond_outcome others) is is_other
       (of-one (beyond_outcome cut) (beyond_outcome others) tt)
-  open-agree cut others a b (inl (above, is)) (inr (within, (rounds, most, is_other))) =
-      both a b (beyond_outcome cut) (Unfound job.last rounds) is is_other
-      (of-one (beyond_outcome cut) (Unfound job.last rounds) above)
-  open-agree cut others a b (inr (within, (rounds, most, is))) (inl (above, is_other)) =
-      both a b (Unfound job.last rounds) (beyond_outcome others) is is_other
-      (of-one (Unfound job.last rounds) (beyond_outcome others) above)
+  open-agree cut others a b (inl (above, is)) (inr (within, (rounds, stopped, most, limit, is_other))) =
+      both a b (beyond_outcome cut) (Unfound job.last rounds stopped) is is_other
+      (of-one (beyond_outcome cut) (Unfound job.last rounds stopped) above)
+  open-agree cut others a b (inr (within, (rounds, stopped, most, limit, is))) (inl (above, is_other)) =
+      both a b (Unfound job.last rounds stopped) (beyond_outcome others) is is_other
+      (of-one (Unfound job.last rounds stopped) (beyond_outcome others) above)
   open-agree cut others a b (inr (within, none)) (inr (within_too, none_too)) =
-      inr (inl (open-both job.last job.rounds a b none none_too))
+      inr (inl (open-both timed (is_some job.seconds) job.last job.rounds a b none none_too))
 
   -- a route that was found from a raised bound on is not below a bound
   found-above : (cut : Cut) (raised : Raised) (at : FoundAt) (bound : ℕ) → IsBestCut placed cut
@@ -110,25 +111,25 @@ module _ (files : FileMap) (job : LeastAsked) (placed : PlacedNetlist)
 
   widths-agree : (cut others : Cut) (a b : Outcome) → IsBestCut placed cut
       → IsBestCut placed others → IsTrueOfWidths job placed cut a
-      → IsTrueOfWidths job placed others b → Agrees false a b
+      → IsTrueOfWidths job placed others b → Agrees timed a b
   widths-agree cut others a b best best_too (inl ends) (inl ends_too) =
       open-agree cut others a b ends ends_too
   widths-agree cut others a b best best_too (inl (inl (above, is)))
       (inr (raised, at, found, is_other)) =
       absurd (not-beyond cut others raised at best best_too found above)
-  widths-agree cut others a b best best_too (inl (inr (within, (rounds, most, is))))
+  widths-agree cut others a b best best_too (inl (inr (within, (rounds, stopped, most, limit, is))))
       (inr (raised, at, found, is_other)) =
       let narrowed = Narrowed raised.tracks at.width others.tracks in
-      both a b (Unfound job.last rounds) narrowed is is_other
-      (of-one (Unfound job.last rounds) narrowed found.found.to)
+      both a b (Unfound job.last rounds stopped) narrowed is is_other
+      (of-one (Unfound job.last rounds stopped) narrowed found.found.to)
   widths-agree cut others a b best best_too (inr (raised, at, found, is))
       (inl (inl (above, is_other))) =
       absurd (not-beyond others cut raised at best_too best found above)
   widths-agree cut others a b best best_too (inr (raised, at, found, is))
-      (inl (inr (within, (rounds, most, is_other)))) =
+      (inl (inr (within, (rounds, stopped, most, limit, is_other)))) =
       let narrowed = Narrowed raised.tracks at.width cut.tracks in
-      both a b narrowed (Unfound job.last rounds) is is_other
-      (of-one narrowed (Unfound job.last rounds) found.found.to)
+      both a b narrowed (Unfound job.last rounds stopped) is is_other
+      (of-one narrowed (Unfound job.last rounds stopped) found.found.to)
   widths-agree cut others a b best best_too (inr (raised, at, found, is))
       (inr (other, ot, found_too, is_other)) =
       both a b (Narrowed raised.tracks at.width cut.tracks)
@@ -142,18 +143,18 @@ module _ (files : FileMap) (job : LeastAsked) (placed : PlacedNetlist)
       ))
 
   least-of-one : (a b : Outcome) → IsTrueOfLeast job placed a → IsTrueOfLeast job placed b
-      → Agrees false a b
+      → Agrees timed a b
   least-of-one a b (cut, best, is) (others, best_too, is_other) =
       widths-agree cut others a b best best_too is is_other
 
-pub least-agrees : (job : LeastAsked) (files : FileMap) (a b : Outcome)
-    → IsTrueOfNarrows job (Some files) a → IsTrueOfNarrows job (Some files) b → Agrees false a b
-least-agrees job files a b (inl h) (inl g) = lacking-agrees files (last_asked job) a b h g
-least-agrees job files a b (inl h) (inr (placed, has, g)) =
+pub least-agrees : (timed : Bool) (job : LeastAsked) (files : FileMap) (a b : Outcome)
+    → IsTrueOfNarrows job (Some files) a → IsTrueOfNarrows job (Some files) b → Agrees timed a b
+least-agrees timed job files a b (inl h) (inl g) = lacking-agrees files timed (last_asked job) a b h g
+least-agrees timed job files a b (inl h) (inr (placed, has, g)) =
     absurd (lacking-has files (last_asked job) placed a h has)
-least-agrees job files a b (inr (placed, has, h)) (inl g) =
+least-agrees timed job files a b (inr (placed, has, h)) (inl g) =
     absurd (lacking-has files (last_asked job) placed b g has)
-least-agrees job files a b (inr (placed, has, h)) (inr (other, others, g)) =
-    least-of-one files job placed has a b h
+least-agrees timed job files a b (inr (placed, has, h)) (inr (other, others, g)) =
+    least-of-one timed files job placed has a b h
     (subst (λ (p : PlacedNetlist). IsTrueOfLeast job p b)
     (one-placed files job.files other placed others.poses has.poses) g)

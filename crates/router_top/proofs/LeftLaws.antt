@@ -225,7 +225,7 @@ module _ (words : List Word) (desk before : Option FileMap) where
   idle-left now (ReadFault file) fileless same = same
   idle-left now (InputFault file line code) fileless same = same
   idle-left now (NotSymmetric width why) fileless same = same
-  idle-left now (Unfound width rounds) fileless same = same
+  idle-left now (Unfound width rounds stopped) fileless same = same
   idle-left now (NoWay width) fileless same = same
   idle-left now (NotModel clause) fileless same = same
   idle-left now (Beyond tracks cells nets) fileless same = same
@@ -473,7 +473,7 @@ module _ (words : List Word) (desk before now : Option FileMap) where
   unsaid-left (ReadFault file) h = none-left words desk before now h
   unsaid-left (InputFault file line code) h = none-left words desk before now h
   unsaid-left (NotSymmetric width why) h = none-left words desk before now h
-  unsaid-left (Unfound width rounds) h = none-left words desk before now h
+  unsaid-left (Unfound width rounds stopped) h = none-left words desk before now h
   unsaid-left (NoWay width) h = none-left words desk before now h
   unsaid-left (NotModel clause) h = none-left words desk before now h
   unsaid-left (Beyond tracks cells nets) h = none-left words desk before now h

@@ -1,6 +1,6 @@
 -- Work on the three files of a placed netlist: what holds of it, where it comes again, and that its
 -- true outcomes agree.
-use Rattle.std.proofs.Common.{false, ◌∙◌, ◌⊎◌, Option, Some, sym, ap, subst, inl, inr}
+use Rattle.std.proofs.Common.{◌∙◌, Bool, ◌⊎◌, Option, Some, sym, ap, subst, inl, inr}
 use Rattle.desk_io.specs.Files.{HasRisen}
 use Rattle.fpga_problem.specs.Files.{PlacedNames}
 use Rattle.fpga_problem.specs.declared.unread.Unread.{Unread}
@@ -24,18 +24,18 @@ abbrev stop_of : Unread → Outcome
 stop_of unread = unread_outcome (Problem unread.file) unread.fault
 
 -- two true outcomes of the work on a placed netlist are one, or both are true of one placed netlist
-pub placed-agrees : (files : FileMap) (names : PlacedNames)
+pub placed-agrees : (timed : Bool) (files : FileMap) (names : PlacedNames)
     (says : PlacedNetlist → Outcome → Type 0) (a b : Outcome)
     → WorksOnPlaced (IsHalted (Some files)) (Some files) names says a
     → WorksOnPlaced (IsHalted (Some files)) (Some files) names says b
-    → ((placed : PlacedNetlist) → says placed a → says placed b → Agrees false a b) → Agrees false a b
-placed-agrees files names says a b (inl h) (inl g) agree =
+    → ((placed : PlacedNetlist) → says placed a → says placed b → Agrees timed a b) → Agrees timed a b
+placed-agrees timed files names says a b (inl h) (inl g) agree =
     inl (h.2 ∙ ap stop_of (three.one-placed-lack files names h.0 g.0 h.1 g.1) ∙ sym g.2)
-placed-agrees files names says a b (inl h) (inr g) agree =
+placed-agrees timed files names says a b (inl h) (inr g) agree =
     absurd (three.placed-lack-poses files names g.0 h.0 h.1 g.1)
-placed-agrees files names says a b (inr h) (inl g) agree =
+placed-agrees timed files names says a b (inr h) (inl g) agree =
     absurd (three.placed-lack-poses files names h.0 g.0 g.1 h.1)
-placed-agrees files names says a b (inr h) (inr g) agree =
+placed-agrees timed files names says a b (inr h) (inr g) agree =
     agree h.0 h.2 (subst (λ (placed : PlacedNetlist). says placed b)
     (three.one-placed files names g.0 h.0 g.1 h.1) g.2)
 

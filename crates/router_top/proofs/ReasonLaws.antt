@@ -59,7 +59,7 @@ module _ (job : LeastAsked) (placed : PlacedNetlist) (cut : ℕ) (raised : Raise
     (is : IsRaised placed cut raised) (before now : ShelfState) where
   pub gives-why : (o : Outcome) → LeavesRaised job placed cut raised before now o
       → IfSome (given_why o raised.why) (HasRaised job placed before.files now.files o)
-  gives-why o (inl (inl (rounds, most, ends), same)) = rw ends tt
+  gives-why o (inl (inl (rounds, stopped, most, limit, ends), same)) = rw ends tt
   gives-why o (inl (inr ends, same)) = rw ends tt
   gives-why o (inr (at, found, inl (ends, written))) =
       rw ends (has-raised job placed cut raised.tracks at.width at.found before now raised.why is
@@ -68,7 +68,7 @@ module _ (job : LeastAsked) (placed : PlacedNetlist) (cut : ℕ) (raised : Raise
 
   pub lacks-why : (o : Outcome) → LeavesRaised job placed cut raised before now o
       → IsNone (given_why o raised.why) → IsUnraised o
-  lacks-why o (inl (inl (rounds, most, ends), same)) none = rw ends tt
+  lacks-why o (inl (inl (rounds, stopped, most, limit, ends), same)) none = rw ends tt
   lacks-why o (inl (inr ends, same)) none = rw ends tt
   lacks-why o (inr (at, found, inl (ends, written))) none =
       rw ends (is-unraised job placed cut raised.tracks at.width at.found before now raised.why is

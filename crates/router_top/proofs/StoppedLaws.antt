@@ -1,6 +1,6 @@
 -- Searches that were stopped before their budgets were spent: of which outcomes this is not so, and
 -- what of a search it comes from.
-use Rattle.std.proofs.Common.{◌≡◌, ◌∙◌, ◌<◌, ℕ, Bool, true, false, List, Ok, Err, Result, refl, sym, ap, subst, inl, inr, arith}
+use Rattle.std.proofs.Common.{◌≡◌, ◌∙◌, ◌<◌, ℕ, Bool, true, false, List, Option, Ok, Err, Result, refl, sym, ap, subst, inl, inr, arith}
 use Rattle.fpga_problem.specs.declared.unread.FileFault.{FileFault}
 use Rattle.fpga_problem.specs.declared.unread.FileFault.TheVariants.{Desk, Text, TooLong}
 use Rattle.fpga_text.specs.declared.fault.TextFault.TheVariants.{Bad, Limit as PastLimit, Memory as NoMemory}
@@ -14,24 +14,36 @@ use Rattle.route_sweep.specs.declared.found.Stop.{Stop}
 use Rattle.route_sweep.specs.declared.found.Stop.TheVariants.{Fault, TooManyClauses, TooManyHeld, Memory}
 use Rattle.router_words.specs.declared.fault.Refusal.{Refusal}
 use Rattle.router_top.specs.Core.{SaysBlamed}
+use Rattle.router_top.specs.Global.{LacksFiles}
 use Rattle.router_top.specs.Generated.{PosesNone}
 use Rattle.router_top.specs.Report.{climbed_outcome, found_outcome, stop_outcome, unread_outcome, unsaid}
 use Rattle.router_top.specs.Run.{Reports}
-use Rattle.router_top.specs.Stopped.{EndsEarly, WasStopped, budget_asked}
+use Rattle.router_top.specs.Stopped.{AreRoundsStopped, EndsEarly, IsStoppedJob, WasStopped, budget_asked}
 use Rattle.router_top.specs.Suited.{IsUnsuited}
-use Rattle.router_top.specs.Subject.{JobAsked, Method, Outcome, RecipeAsked, RoutingProblem, ShelfState, Undecided, Word, WriteFault, job_of}
+use Rattle.router_top.specs.Subject.{FileMap, GlobalAsked, JobAsked, Method, Narrows, Negotiates, Outcome, RecipeAsked, RoutingProblem, ShelfState, Source, Undecided, Unfound, Word, WriteFault, job_of}
 use Rattle.router_top.specs.declared.text_file.TextFile.{TextFile}
+use Rattle.router_top.proofs.GlobalLaws.{lacking-holds}
 
 -- ---- outcomes of which it is not so
 
 -- the outcome says that a search was left open
 abbrev is_open : Outcome → Bool
 is_open (Undecided width learned) = true
+is_open (Unfound width rounds stopped) = true
 is_open outcome = false
 
 -- another one does not say that it was stopped
 pub not-open : (budget : ℕ) (o : Outcome) → is_open o ≡ false → EndsEarly budget o → ⊥
 not-open budget o closed early = let opened = ap is_open early.is in cc
+
+-- nor that its rounds were
+unstopped : (o : Outcome) → is_open o ≡ false → AreRoundsStopped o → ⊥
+unstopped (Unfound width rounds stopped) closed stop = cc
+unstopped o closed stop = stop
+
+-- nor does one of those
+pub is-unstopped : (o other : Outcome) → o ≡ other → is_open other ≡ false → AreRoundsStopped o → ⊥
+is-unstopped o other is closed = unstopped o (ap is_open is ∙ closed)
 
 stop-closed : (stop : Stop) → is_open (stop_outcome stop) ≡ false
 stop-closed (Fault slot) = refl
@@ -67,6 +79,17 @@ pub unmade-not-early : (budget : ℕ) (recipe : RecipeAsked) (o : Outcome) → P
 unmade-not-early budget recipe o (inl (inl h)) = not-open budget o (ap is_open h.1)
 unmade-not-early budget recipe o (inl (inr short)) = not-open budget o (ap is_open short)
 unmade-not-early budget recipe o (inr h) = not-open budget o (ap is_open h.3)
+
+-- files that give no placed netlist or no route to begin with
+pub lacking-unstopped : (stops : Source → FileFault → Type 0) (files : Option FileMap)
+    (job : GlobalAsked) (o : Outcome) → LacksFiles stops files job o → AreRoundsStopped o → ⊥
+lacking-unstopped stops files job o =
+    lacking-holds (λ (o : Outcome). ¬ AreRoundsStopped o) (record {
+      memory = λ h. h;
+      read = λ file h. h;
+      input = λ file line code h. h;
+      limit = λ file code count h. h;
+    }) stops files job o
 
 -- ---- what it comes from
 
@@ -117,20 +140,23 @@ blamed-early budget width wrote now (Err stop) o h = found-early budget width (E
 
 -- ---- what the words ask for
 
+-- an outcome that says that no search was left open says of no job that its search was stopped
+job-open : (job : JobAsked) (o : Outcome) → is_open o ≡ false → IsStoppedJob job o → ⊥
+job-open (Negotiates job) o closed stopped = unstopped o closed stopped
+job-open (Narrows job) o closed stopped = unstopped o closed stopped
+job-open job o closed early = not-open (budget_asked job) o closed early
+
 -- the search of their job was stopped
 pub stopped-there : (words : List Word) (o : Outcome) (job : JobAsked) → job_of words ≡ Ok job
-    → WasStopped words o → EndsEarly (budget_asked job) o
+    → WasStopped words o → IsStoppedJob job o
 stopped-there words o job asked stopped =
     let other = stopped.asked in
     let same : stopped.job ≡ job = cc in
-    subst (λ (j : JobAsked). EndsEarly (budget_asked j) o) same stopped.early
+    subst (λ (j : JobAsked). IsStoppedJob j o) same stopped.early
 
 -- a job without a search was not stopped
-pub none-stopped : (words : List Word) (o : Outcome) (job : JobAsked) → job_of words ≡ Ok job
-    → budget_asked job ≡ 0 → WasStopped words o → ⊥
-none-stopped words o job asked none stopped =
-    let early = stopped-there words o job asked stopped in
-    omega (arith, none, early.fewer)
+pub none-early : (o : Outcome) → EndsEarly 0 o → ⊥
+none-early o early = omega (arith, early.fewer)
 
 -- nor were words that are not taken
 pub refused-stopped : (words : List Word) (o : Outcome) (cause : Refusal)
@@ -143,5 +169,4 @@ pub reported-stopped : (words : List Word) (before : ShelfState) (o : Outcome) (
     → WasStopped words o
 reported-stopped words before o now answer (inl h) stopped = subst (WasStopped words) h.0 stopped
 reported-stopped words before o now answer (inr h) stopped =
-    absurd (not-open (budget_asked stopped.job) answer (ap is_open h.0 ∙ unsaid-closed o)
-    stopped.early)
+    absurd (job-open stopped.job answer (ap is_open h.0 ∙ unsaid-closed o) stopped.early)

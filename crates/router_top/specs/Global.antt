@@ -1,5 +1,5 @@
 -- The command `global`: a route of a placement that was found together with its tracks.
-use Rattle.std.specs.Prelude.{◌≡◌, ◌⊎◌, ◌≤◌, ◌++◌, ℕ, not, ⊤, List, [], ◌∷◌, codes, Option, None, Some, Ok}
+use Rattle.std.specs.Prelude.{◌≡◌, ◌⊎◌, ◌≤◌, ◌++◌, ℕ, Bool, true, is_some, not, ⊤, List, [], ◌∷◌, codes, Option, None, Some, Ok}
 use Rattle.fpga_problem.specs.Files.{IsSoundPlaced, PosesPlaced}
 use Rattle.fpga_problem.specs.Sources.{StopsAt}
 use Rattle.fpga_problem.specs.declared.text_file.TextFile.TheVariants.{Route as RouteFile}
@@ -78,15 +78,19 @@ SaysNet netlist net width before now outcome =
     ((now ≡ after_say before (net_line netlist net)) × (outcome ≡ NoWay width))
     ⊎ (FailsToSay before (net_line netlist net) now × (outcome ≡ WriteFault Said))
 
--- no route was found at the width, in some rounds that were no more than these
-abbrev pub EndsUnfound : (width most : ℕ) → Outcome → Type 0
-EndsUnfound width most outcome = (rounds : ℕ) × (rounds ≤ most) × (outcome ≡ Unfound width rounds)
+-- no route was found at the width, in some rounds that were no more than these; the clock may have
+-- ended them, where there is a limit of time
+abbrev pub EndsUnfound : (timed : Bool) → (width most : ℕ) → Outcome → Type 0
+EndsUnfound timed width most outcome =
+    (rounds : ℕ) × (stopped : Bool) × (rounds ≤ most) × (stopped ≡ true → timed ≡ true)
+    × (outcome ≡ Unfound width rounds stopped)
 
 -- nothing was written, since no route was found in at most as many rounds as were asked for, or
 -- memory ran out; or one was found, and its file was written, or not whole
 abbrev pub LeavesFound : GlobalAsked → PlacedNetlist → (before now : ShelfState) → Outcome → Type 0
 LeavesFound job placed before now outcome =
-    ((EndsUnfound job.width job.rounds outcome ⊎ (outcome ≡ OutOfMemory)) × (now ≡ before))
+    ((EndsUnfound (is_some job.seconds) job.width job.rounds outcome ⊎ (outcome ≡ OutOfMemory))
+    × (now ≡ before))
     ⊎ ((found : RouteText) × IsFoundRoute job placed found
     × WritesFiles (Routed job.width) (found_file job found ∷ []) before now outcome)
 
@@ -117,13 +121,16 @@ pub record IsNegotiated (words : List Word) (desk before now : Option FileMap) (
   pub written : AreWritten (found_file job found ∷ []) before now
 
 -- the words ask for one, and the files read; wires reach each sink of each ordinary net, but none
--- was found in so many rounds, which are at most as many as were asked for; no file has changed
-pub record IsUnfound (words : List Word) (desk before now : Option FileMap) (width rounds : ℕ)
+-- was found in so many rounds, which are at most as many as were asked for, and which the clock may
+-- have ended where the words set a limit of time; no file has changed
+pub record IsUnfound
+    (words : List Word) (desk before now : Option FileMap) (width rounds : ℕ) (stopped : Bool)
     : Type 0 where
   pub job : GlobalAsked
   pub asked : job_of words ≡ Ok (Negotiates job)
   pub width_is : width ≡ job.width
   pub rounds_most : rounds ≤ job.rounds
+  pub timed : stopped ≡ true → is_some job.seconds ≡ true
   pub placed : PlacedNetlist
   pub files : HasFiles desk job placed
   pub reached : AreNetsReached placed width
@@ -166,7 +173,7 @@ IsNoWay outcome = ⊥
 abbrev pub IsTrueOfFound : GlobalAsked → PlacedNetlist → Outcome → Type 0
 IsTrueOfFound job placed outcome =
     ((found : RouteText) × IsFoundRoute job placed found × (outcome ≡ Routed job.width))
-    ⊎ EndsUnfound job.width job.rounds outcome
+    ⊎ EndsUnfound (is_some job.seconds) job.width job.rounds outcome
 
 -- no wires reach a sink of some ordinary net, and the outcome is that there is no way; or they
 -- reach each, and this is true

@@ -1,5 +1,5 @@
 -- The command `least`: how many tracks a placement needs, from both sides.
-use Rattle.std.specs.Prelude.{◌≡◌, ◌⊎◌, ℕ, ◌<◌, ◌≤◌, ⊤, List, length, Ok, Option}
+use Rattle.std.specs.Prelude.{◌≡◌, ◌⊎◌, ℕ, ◌<◌, ◌≤◌, ⊤, Bool, true, is_some, List, length, Ok, Option}
 use Rattle.fpga_types.specs.Placed.{IsPlacedRouting, NetWires}
 use Rattle.fpga_types.specs.Problem.{PlacedNetlist}
 use Rattle.route_bound.specs.Crossing.{IsBound}
@@ -25,6 +25,8 @@ at_width job width = record {
   free = job.free;
   from = job.from;
   rounds = job.rounds;
+  seconds = job.seconds;
+  stats = job.stats;
 }
 
 -- the last one
@@ -48,7 +50,7 @@ beyond_outcome cut = Beyond cut.tracks cut.cells (length cut.nets)
 abbrev pub EndsOpen : LeastAsked → Cut → Outcome → Type 0
 EndsOpen job cut outcome =
     ((job.last < cut.tracks) × (outcome ≡ beyond_outcome cut))
-    ⊎ ((cut.tracks ≤ job.last) × EndsUnfound job.last job.rounds outcome)
+    ⊎ ((cut.tracks ≤ job.last) × EndsUnfound (is_some job.seconds) job.last job.rounds outcome)
 
 -- ---- what is left
 
@@ -64,7 +66,8 @@ pub record IsFoundFrom
 abbrev pub LeavesRaised : LeastAsked → PlacedNetlist → (cut : ℕ) → Raised
     → (before now : ShelfState) → Outcome → Type 0
 LeavesRaised job placed cut raised before now outcome =
-    ((EndsUnfound job.last job.rounds outcome ⊎ (outcome ≡ OutOfMemory)) × (now ≡ before))
+    ((EndsUnfound (is_some job.seconds) job.last job.rounds outcome ⊎ (outcome ≡ OutOfMemory))
+    × (now ≡ before))
     ⊎ ((at : FoundAt) × IsFoundAt job placed raised.tracks at
     × WritesFiles (Narrowed raised.tracks at.width cut)
     (narrowed_files (least_names job.prefix) at.found raised.tracks raised.why) before now outcome)
@@ -148,13 +151,16 @@ pub record IsBeyond (words : List Word) (desk before now : Option FileMap) (trac
   pub same : now ≡ before
 
 -- so it is, and none was found at any width up to the last, in at most so many rounds at each,
--- which are at most as many as were asked for; no file has changed
-pub record IsUnnarrowed (words : List Word) (desk before now : Option FileMap) (width rounds : ℕ)
+-- which are at most as many as were asked for, and which the clock may have ended where the words
+-- set a limit of time; no file has changed
+pub record IsUnnarrowed
+    (words : List Word) (desk before now : Option FileMap) (width rounds : ℕ) (stopped : Bool)
     : Type 0 where
   pub cut : Cut
   pub least : IsCutOfLeast words desk cut
   pub width_is : width ≡ least.job.last
   pub rounds_most : rounds ≤ least.job.rounds
+  pub timed : stopped ≡ true → is_some least.job.seconds ≡ true
   pub within : cut.tracks ≤ width
   pub same : now ≡ before
 
@@ -164,7 +170,7 @@ pub record IsUnnarrowed (words : List Word) (desk before now : Option FileMap) (
 abbrev pub IsOfCut : Cut → Outcome → Type 0
 IsOfCut cut (Narrowed tracks width by_cut) = (by_cut ≡ cut.tracks) × (by_cut ≤ tracks)
 IsOfCut cut (Beyond tracks cells nets) = Beyond tracks cells nets ≡ beyond_outcome cut
-IsOfCut cut (Unfound width rounds) = cut.tracks ≤ width
+IsOfCut cut (Unfound width rounds stopped) = cut.tracks ≤ width
 IsOfCut cut (WriteFault (File slot)) = ⊤
 IsOfCut cut OutOfMemory = ⊤
 IsOfCut cut outcome = ⊥
@@ -183,7 +189,7 @@ pub record AreLeastLines
 abbrev pub IsNarrowing : Outcome → Type 0
 IsNarrowing (Narrowed tracks width by_cut) = Unit {0}
 IsNarrowing (Beyond tracks cells nets) = Unit {0}
-IsNarrowing (Unfound width rounds) = Unit {0}
+IsNarrowing (Unfound width rounds stopped) = Unit {0}
 IsNarrowing outcome = ⊥
 
 -- ---- what is true

@@ -100,9 +100,9 @@ Means words desk before now (Unroutable width) = IsRefuted words desk before now
 Means words desk before now (Undecided width learned) =
     IsLeftOpen words desk before now width learned
 Means words desk before now (Bound tracks cells nets) = IsBounded words desk tracks cells nets
-Means words desk before now (Unfound width rounds) =
-    IsUnfound words desk before now width rounds
-    ⊎ IsUnnarrowed words desk before now width rounds
+Means words desk before now (Unfound width rounds stopped) =
+    IsUnfound words desk before now width rounds stopped
+    ⊎ IsUnnarrowed words desk before now width rounds stopped
 Means words desk before now (NoWay width) = IsWithoutWay words desk before now width
 Means words desk before now (Narrowed tracks width cut) =
     IsNarrowed words desk before now tracks width cut

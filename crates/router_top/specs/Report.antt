@@ -55,7 +55,7 @@ status_of (Routed width) = 0
 status_of (Unroutable width) = 1
 status_of (Undecided width learned) = 2
 status_of (Bound tracks cells nets) = 0
-status_of (Unfound width rounds) = 2
+status_of (Unfound width rounds stopped) = 2
 status_of (NoWay width) = 1
 status_of (Narrowed tracks width cut) = 0
 status_of (Beyond tracks cells nets) = 1
@@ -81,7 +81,7 @@ report_of (Undecided width learned) =
     codes "undecided " ++ decimal width ++ codes " after " ++ decimal learned
     ++ codes " learned clauses"
 report_of (Bound tracks cells nets) = codes "bound " ++ decimal tracks
-report_of (Unfound width rounds) =
+report_of (Unfound width rounds stopped) =
     codes "undecided " ++ decimal width ++ codes " after " ++ decimal rounds ++ codes " rounds"
 report_of (NoWay width) = codes "no way " ++ decimal width
 report_of (Narrowed tracks width cut) = codes "routed " ++ decimal width

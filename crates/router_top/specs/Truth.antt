@@ -160,8 +160,8 @@ IsOpenBelow timed (Undecided width learned) (Undecided of others) =
     (width ≤ of) × (timed ≡ false → learned ≡ others)
 IsOpenBelow timed (Undecided width learned) (Limit file code count) =
     (code ≡ size_code FormulaClauses) ⊎ (code ≡ size_code ClausesOfTurns)
-IsOpenBelow timed (Unfound width rounds) (Routed of) = width ≤ of
-IsOpenBelow timed (Unfound width rounds) (Unfound of others) = width ≡ of
+IsOpenBelow timed (Unfound width rounds stopped) (Routed of) = width ≤ of
+IsOpenBelow timed (Unfound width rounds stopped) (Unfound of others other_stopped) = width ≡ of
 IsOpenBelow timed outcome other = ⊥
 
 -- both are bounds
@@ -174,10 +174,10 @@ AreBounds outcome other = ⊥
 abbrev pub AreOfOne : Outcome → Outcome → Type 0
 AreOfOne (Narrowed tracks width cut) (Narrowed others of other_cut) =
     (tracks ≤ of) × (others ≤ width)
-AreOfOne (Narrowed tracks width cut) (Unfound last rounds) = width ≤ last
-AreOfOne (Unfound last rounds) (Narrowed tracks width cut) = width ≤ last
-AreOfOne (Unfound last rounds) (Beyond tracks cells nets) = last < tracks
-AreOfOne (Beyond tracks cells nets) (Unfound last rounds) = last < tracks
+AreOfOne (Narrowed tracks width cut) (Unfound last rounds stopped) = width ≤ last
+AreOfOne (Unfound last rounds stopped) (Narrowed tracks width cut) = width ≤ last
+AreOfOne (Unfound last rounds stopped) (Beyond tracks cells nets) = last < tracks
+AreOfOne (Beyond tracks cells nets) (Unfound last rounds stopped) = last < tracks
 AreOfOne (Beyond tracks cells nets) (Beyond others other_cells other_nets) = Unit {0}
 AreOfOne outcome other = ⊥
 

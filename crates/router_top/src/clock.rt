@@ -1,9 +1,11 @@
 //! The clock of a run.
 
-use patience::{Forever, Patience};
+use patience::Forever;
+use route_sweep::Watch;
 
-/// A clock, which is the patience of the searches of a run where the words set a limit of time.
-pub trait Clock: Patience {
+/// A clock, which is the patience of the searches of a run where the words set a limit of time, and
+/// is told how they go.
+pub trait Clock: Watch {
     /// Once so many seconds of the run have passed, the searches are to go on no more.
     fn set_limit(&mut self, seconds: u32);
 }

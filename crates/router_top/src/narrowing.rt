@@ -1,15 +1,18 @@
 //! The command `least`: how many tracks a placement needs, from both sides.
-ghost use Rattle.std.specs.Prelude.{◌≡◌, ◌⊎◌, ◌≤◌, IfOk, IfSome, IsNone, None, option_map};
+ghost use Rattle.std.specs.Prelude.{◌≡◌, ◌⊎◌, ◌≤◌, IfOk, IfSome, IsNone, None, is_some, option_map, true};
 ghost use Rattle.fpga_problem.specs.Files.{IsSoundPlaced};
 ghost use Rattle.route_bound.specs.Cuts.{IsBestCut};
 ghost use Rattle.router_words.specs.Job.{global_said, least_said};
 ghost use Rattle.router_top.specs.Bound.{IsShort};
 ghost use Rattle.router_top.specs.Least.{IsFoundAt, LeavesCut, LeavesNarrowed, LeavesRaised, LeavesWidths, at_width};
+ghost use Rattle.router_top.specs.Raised.{IsRaised};
 ghost use Rattle.router_top.specs.Reasons.{HasRaised, IsReasonOf, IsUnraised, given_why, reason_by};
 ghost use Rattle.router_top.specs.Report.{IsReadFault};
 ghost use Rattle.router_top.specs.Run.{LeavesLeast, scene};
+ghost use Rattle.router_top.specs.Stopped.{AreRoundsStopped};
 
 use crate::bounding::say_cut;
+use crate::clock::{Clock, set_limit};
 use crate::narrowed::write_narrowed;
 use crate::negotiating::{Begun, legal_route, read_begun};
 use crate::outcome::Outcome;
@@ -20,7 +23,9 @@ use cell_bound::CellRefutation;
 use desk_io::Desk;
 use fpga_problem::PlacedFiles;
 use fpga_types::RouteText;
+use patience::{Forever, Patience};
 use route_bound::{Cut, best_cut};
+use route_sweep::Watch;
 use router_words::{GlobalJob, LeastJob};
 use std::alloc::{AllocError, Global};
 
@@ -31,11 +36,12 @@ pub(crate) struct FoundAt {
     pub found: RouteText,
 }
 
-/// What searches at several widths come to: the most rounds that were made at one of them, and the
-/// route that was found, if there is one.
+/// What searches at several widths come to: the most rounds that were made at one of them, whether
+/// the last were ended by the clock, and the route that was found, if there is one.
 #[derive(Drop)]
 struct Narrowing {
     rounds: u32,
+    stopped: bool,
     at: Option<FoundAt>,
 }
 
@@ -60,21 +66,29 @@ fn at_width<'a>(job: &LeastJob<'a>, width: u32) -> GlobalJob<'a>
         free: job.free,
         from: job.from,
         rounds: job.rounds,
+        seconds: job.seconds,
+        stats: job.stats,
     }
 }
 
 // The first width from so many tracks up to the last at which a route is found, and that route, if
 // there is one; and how many rounds were made at most. The shelf is told each width that has none.
-fn first_found<S: Progress>(
+// Where the clock ends the rounds of a width no further one is tried.
+fn first_found<S: Progress, P: Watch>(
     alloc: Global,
     job: &LeastJob<'_>,
     begun: &Begun,
     tracks: u32,
     shelf: &mut S,
+    patience: &mut P,
 ) -> Result<Narrowing, AllocError>
     requires placed { IsSoundPlaced begun.now.placed }
     requires some { 1 ≤ tracks }
     ensures rounds { IfOk result (λ narrowing. narrowing.rounds ≤ job.now.rounds) }
+    ensures stopped { IfOk result
+        (λ narrowing. narrowing.stopped ≡ true → P.is_over patience.new) }
+    ensures timed { IfOk result
+        (λ narrowing. narrowing.stopped ≡ true → is_some job.now.seconds ≡ true) }
     ensures at { IfOk result (λ narrowing. IfSome narrowing.at
         (IsFoundAt (least_said job.now) begun.now.placed tracks)) }
     ensures stays { S.state shelf.new ≡ S.state shelf.old }
@@ -82,20 +96,49 @@ fn first_found<S: Progress>(
     let mut most = 0;
     for width in tracks..job.last + 1 {
         let job = at_width(job, width);
-        let searched = legal_route(alloc, &job, &begun.placed, begun.start.as_ref())?;
+        let searched = legal_route(alloc, &job, &begun.placed, begun.start.as_ref(), patience)?;
         most = searched.rounds.max(most);
         if let Some(found) = searched.route {
             return Ok(Narrowing {
                 rounds: most,
+                stopped: false,
                 at: Some(FoundAt { width, found }),
             });
         }
         shelf.told_unfound(width, searched.rounds);
+        if searched.stopped {
+            return Ok(Narrowing {
+                rounds: most,
+                stopped: true,
+                at: None,
+            });
+        }
     }
     Ok(Narrowing {
         rounds: most,
+        stopped: false,
         at: None,
     })
+}
+
+// The bound of a cut, raised by refutations, which the patience may end where the job has a limit
+// of time.
+fn raised_bound<P: Patience>(
+    alloc: Global,
+    job: &LeastJob<'_>,
+    placed: &PlacedFiles,
+    cut: u32,
+    patience: &mut P,
+) -> Result<Raised, AllocError>
+    requires placed { IsSoundPlaced placed.now }
+    requires some { 1 ≤ cut }
+    requires within { cut ≤ job.now.last }
+    ensures { IfOk result (IsRaised placed.now cut) }
+{
+    if job.seconds.is_none() {
+        return raise(alloc, placed, cut, job.last, &mut Forever);
+    }
+    raise(alloc, placed, cut, job.last, patience)
 }
 
 // Tells the shelf of a refutation that raised the bound.
@@ -109,27 +152,30 @@ fn tell_raised<S: Progress>(raised: &Raised, shelf: &mut S)
 
 // Looks for a route at each width from a bound on, where a cut asks for so many tracks, and writes
 // the first, and what raised the bound.
-fn search_from<S: Progress>(
+fn search_from<S: Progress, P: Watch>(
     alloc: Global,
     job: &LeastJob<'_>,
     begun: &Begun,
     cut: u32,
     raised: &Raised,
     shelf: &mut S,
+    patience: &mut P,
 ) -> Outcome
     requires placed { IsSoundPlaced begun.now.placed }
     requires some { 1 ≤ raised.now.tracks }
-    ensures { LeavesRaised (least_said job.now) begun.now.placed cut raised.now
+    ensures leaves { LeavesRaised (least_said job.now) begun.now.placed cut raised.now
         (S.state shelf.old) (S.state shelf.new) result }
+    ensures stopped { AreRoundsStopped result → P.is_over patience.new }
 {
     tell_raised(raised, shelf);
-    let Ok(narrowing) = first_found(alloc, job, begun, raised.tracks, shelf) else {
+    let Ok(narrowing) = first_found(alloc, job, begun, raised.tracks, shelf, patience) else {
         return Outcome::OutOfMemory;
     };
     let Some(at) = narrowing.at else {
         return Outcome::Unfound {
             width: job.last,
             rounds: narrowing.rounds,
+            stopped: narrowing.stopped,
         };
     };
     write_narrowed(alloc, job.prefix, cut, raised, &at, shelf)
@@ -147,12 +193,13 @@ fn given_why(outcome: Outcome, raised: Raised) -> Option<CellRefutation>
 
 // Raises the bound of a cut, looks for a route at each width from there on, and writes the first,
 // and what raised the bound.
-fn search_widths<S: Progress>(
+fn search_widths<S: Progress, P: Watch>(
     alloc: Global,
     job: &LeastJob<'_>,
     begun: &Begun,
     cut: &Cut,
     shelf: &mut S,
+    patience: &mut P,
 ) -> Ended
     requires placed { IsSoundPlaced begun.now.placed }
     requires some { 1 ≤ cut.now.tracks }
@@ -161,6 +208,7 @@ fn search_widths<S: Progress>(
     ensures why { IfSome result.why (HasRaised (least_said job.now) begun.now.placed
         (S.state shelf.old).files (S.state shelf.new).files result.outcome) }
     ensures none { IsNone result.why → IsUnraised result.outcome }
+    ensures stopped { AreRoundsStopped result.outcome → P.is_over patience.new }
 {
     if job.last < cut.tracks {
         return Ended {
@@ -172,13 +220,13 @@ fn search_widths<S: Progress>(
             why: None,
         };
     }
-    let Ok(raised) = raise(alloc, &begun.placed, cut.tracks, job.last) else {
+    let Ok(raised) = raised_bound(alloc, job, &begun.placed, cut.tracks, patience) else {
         return Ended {
             outcome: Outcome::OutOfMemory,
             why: None,
         };
     };
-    let outcome = search_from(alloc, job, begun, cut.tracks, &raised, shelf);
+    let outcome = search_from(alloc, job, begun, cut.tracks, &raised, shelf, patience);
     Ended {
         outcome,
         why: given_why(outcome, raised),
@@ -186,12 +234,13 @@ fn search_widths<S: Progress>(
 }
 
 // Says the lines of a cut, and then looks for a route.
-fn narrow_cut<S: Progress>(
+fn narrow_cut<S: Progress, P: Watch>(
     alloc: Global,
     job: &LeastJob<'_>,
     begun: &Begun,
     cut: &Cut,
     shelf: &mut S,
+    patience: &mut P,
 ) -> Ended
     requires placed { IsSoundPlaced begun.now.placed }
     requires some { 1 ≤ cut.now.tracks }
@@ -201,9 +250,10 @@ fn narrow_cut<S: Progress>(
     ensures why { IfSome result.why (HasRaised (least_said job.now) begun.now.placed
         (S.state shelf.old).files (S.state shelf.new).files result.outcome) }
     ensures none { IsNone result.why → IsUnraised result.outcome }
+    ensures stopped { AreRoundsStopped result.outcome → P.is_over patience.new }
 {
     match say_cut(alloc, &begun.placed.netlist, cut, shelf) {
-        Ok(()) => search_widths(alloc, job, begun, cut, shelf),
+        Ok(()) => search_widths(alloc, job, begun, cut, shelf, patience),
         Err(stop) => Ended {
             outcome: stop,
             why: None,
@@ -212,11 +262,12 @@ fn narrow_cut<S: Progress>(
 }
 
 // Finds one of the best cuts of a placed netlist, says its lines, and looks for a route.
-fn narrow_placed<S: Progress>(
+fn narrow_placed<S: Progress, C: Clock>(
     alloc: Global,
     job: &LeastJob<'_>,
     begun: &Begun,
     shelf: &mut S,
+    clock: &mut C,
 ) -> Ended
     requires { IsSoundPlaced begun.now.placed }
     ensures leaves { LeavesNarrowed (least_said job.now) begun.now.placed (S.state shelf.old)
@@ -224,6 +275,7 @@ fn narrow_placed<S: Progress>(
     ensures why { IfSome result.why (HasRaised (least_said job.now) begun.now.placed
         (S.state shelf.old).files (S.state shelf.new).files result.outcome) }
     ensures none { IsNone result.why → IsUnraised result.outcome }
+    ensures stopped { AreRoundsStopped result.outcome → C.is_over clock.new }
 {
     let placed = &begun.placed;
     let Ok(cut) = best_cut(alloc, &placed.arch, &placed.netlist, &placed.placement) else {
@@ -232,7 +284,8 @@ fn narrow_placed<S: Progress>(
             why: None,
         };
     };
-    narrow_cut(alloc, job, begun, &cut, shelf)
+    set_limit(clock, job.seconds);
+    narrow_cut(alloc, job, begun, &cut, shelf, clock)
 }
 
 // What a run comes to, and the reason that it gives back, if there is one, with the netlist.
@@ -257,11 +310,14 @@ fn ran_by(begun: Begun, ended: Ended) -> Ran
 /// Reads the files of a job, says the lines of one of the best cuts, raises the bound of that by
 /// refutations over cells, and looks for a route of the placement at each width from that bound up
 /// to the last: the first that is found is written, and behind it the refutation, if there is one.
-pub fn narrow_files<D: Desk, S: Progress>(
+/// The clock is told of the job's limit once, if there is one, and then asked before each window
+/// and each round; where it says no nothing more is refuted, and no further width is tried.
+pub fn narrow_files<D: Desk, S: Progress, C: Clock>(
     alloc: Global,
     job: &LeastJob<'_>,
     desk: &mut D,
     shelf: &mut S,
+    clock: &mut C,
 ) -> Ran
     ensures leaves { LeavesLeast (least_said job.now)
         (scene (D.state desk.old) (D.state desk.new) (S.state shelf.old) (S.state shelf.new))
@@ -273,10 +329,11 @@ pub fn narrow_files<D: Desk, S: Progress>(
     ensures reason { IfSome result.reason (IsReasonOf (least_said job.now) (D.state desk.old).files
         (S.state shelf.old).files (S.state shelf.new).files result.outcome) }
     ensures unraised { IsNone result.reason → IsUnraised result.outcome }
+    ensures stopped { AreRoundsStopped result.outcome → C.is_over clock.new }
 {
     match read_begun(alloc, &at_width(job, job.last), desk) {
         Ok(begun) => {
-            let ended = narrow_placed(alloc, job, &begun, shelf);
+            let ended = narrow_placed(alloc, job, &begun, shelf, clock);
             ran_by(begun, ended)
         }
         Err(stop) => without_problem(stop),

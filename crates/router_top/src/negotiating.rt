@@ -1,5 +1,5 @@
 //! The command `global`: a search for a route of a placement together with its tracks.
-ghost use Rattle.std.specs.Prelude.{◌≡◌, ◌⊎◌, ◌≤◌, [], ◌∷◌, IfErr, IfOk, IfSome};
+ghost use Rattle.std.specs.Prelude.{◌≡◌, ◌⊎◌, ◌≤◌, [], ◌∷◌, IfErr, IfOk, IfSome, is_some, true};
 ghost use Rattle.std.specs.Result.{IsErrAnd};
 ghost use Rattle.fpga_problem.specs.Files.{IsSoundPlaced};
 ghost use Rattle.fpga_problem.specs.Sources.{IsStopped};
@@ -11,10 +11,12 @@ ghost use Rattle.router_top.specs.Bound.{IsShort};
 ghost use Rattle.router_top.specs.Global.{HasFiles, IsFoundRoute, LacksFiles, LeavesFound, LeavesSought, SaysNet, found_file, judged_for};
 ghost use Rattle.router_top.specs.Report.{IsReadFault};
 ghost use Rattle.router_top.specs.Run.{LeavesGlobal, scene};
+ghost use Rattle.router_top.specs.Stopped.{AreRoundsStopped};
 ghost use Rattle.router_top.specs.Written.{WritesFiles};
 ghost use Rattle.router_top.specs.declared.outcome.Outcome.TheVariants.{OutOfMemory};
 
 use crate::bounding::append_net;
+use crate::clock::{Clock, set_limit};
 use crate::file_name::file_name;
 use crate::outcome::Outcome;
 use crate::slot::Slot;
@@ -25,10 +27,11 @@ use fpga_problem::{PlacedFiles, TextFile as ProblemFile, read_placed, read_route
 use fpga_route::{WholeRoute, read_route};
 use fpga_text::TextFault;
 use fpga_types::{Netlist, RouteText};
+use patience::{Forever, Patience};
 use route_judge::{judge, judge_strict};
-use route_negotiate::{CellWires, Options, negotiate, route_text};
+use route_negotiate::{CellWires, Options, Sought, negotiate, route_text};
 use route_parts::unreached_net;
-use route_sweep::FileSlot;
+use route_sweep::{FileSlot, Watch};
 use route_verify::Judgement;
 use router_words::GlobalJob;
 use std::alloc::{AllocError, Global};
@@ -52,38 +55,79 @@ fn options_of(job: &GlobalJob<'_>) -> Options
     }
 }
 
-/// What a search comes to: how many rounds it makes, and a route, if it finds one.
+/// What a search comes to: how many rounds it makes, whether its patience has ended them, and a
+/// route, if it finds one.
 #[derive(Drop)]
 pub(crate) struct Searched {
     pub rounds: u32,
+    pub stopped: bool,
     pub route: Option<RouteText>,
 }
 
-// The route of the wires that a search finds, if it finds some. Nothing is known of it but that it
-// can be judged.
-fn searched_route(
+// What a search comes to, which the patience may end where the job has a limit of time.
+fn sought<P: Patience>(
     alloc: Global,
     job: &GlobalJob<'_>,
     placed: &PlacedFiles,
     start: Option<&RouteText>,
+    patience: &mut P,
+) -> Result<Sought, AllocError>
+    requires { IsSoundPlaced placed.now }
+    ensures rounds { IfOk result (λ sought. sought.rounds ≤ job.now.rounds) }
+    ensures stopped { IfOk result (λ sought. sought.stopped ≡ true → P.is_over patience.new) }
+    ensures timed { IfOk result
+        (λ sought. sought.stopped ≡ true → is_some job.now.seconds ≡ true) }
+{
+    let (arch, netlist, placement) = (&placed.arch, &placed.netlist, &placed.placement);
+    let (width, options) = (job.width, options_of(job));
+    if job.seconds.is_none() {
+        return negotiate(
+            alloc,
+            arch,
+            netlist,
+            placement,
+            width,
+            options,
+            start,
+            &mut Forever,
+        );
+    }
+    negotiate(
+        alloc, arch, netlist, placement, width, options, start, patience,
+    )
+}
+
+// The route of the wires that a search finds, if it finds some. Nothing is known of it but that it
+// can be judged.
+fn searched_route<P: Patience>(
+    alloc: Global,
+    job: &GlobalJob<'_>,
+    placed: &PlacedFiles,
+    start: Option<&RouteText>,
+    patience: &mut P,
 ) -> Result<Searched, AllocError>
     requires { IsSoundPlaced placed.now }
     ensures rounds { IfOk result (λ searched. searched.rounds ≤ job.now.rounds) }
+    ensures stopped { IfOk result
+        (λ searched. searched.stopped ≡ true → P.is_over patience.new) }
+    ensures timed { IfOk result
+        (λ searched. searched.stopped ≡ true → is_some job.now.seconds ≡ true) }
     ensures sound { IfOk result (λ searched. IfSome searched.route IsSound) }
 {
     let (arch, netlist, placement) = (&placed.arch, &placed.netlist, &placed.placement);
-    let options = options_of(job);
-    let sought = negotiate(alloc, arch, netlist, placement, job.width, options, start)?;
-    let rounds = sought.rounds;
+    let sought = sought(alloc, job, placed, start, patience)?;
+    let (rounds, stopped) = (sought.rounds, sought.stopped);
     let Some(nets) = sought.nets else {
         return Ok(Searched {
             rounds,
+            stopped,
             route: None,
         });
     };
     let route = route_text(alloc, arch, netlist, placement, &nets)?;
     Ok(Searched {
         rounds,
+        stopped,
         route: Some(route),
     })
 }
@@ -138,26 +182,52 @@ fn judgement(
 ///
 /// # Errors
 /// Memory ran out.
-pub(crate) fn legal_route(
+pub(crate) fn legal_route<P: Watch>(
     alloc: Global,
     job: &GlobalJob<'_>,
     placed: &PlacedFiles,
     start: Option<&RouteText>,
+    patience: &mut P,
 ) -> Result<Searched, AllocError>
     requires { IsSoundPlaced placed.now }
     ensures rounds { IfOk result (λ searched. searched.rounds ≤ job.now.rounds) }
+    ensures stopped { IfOk result
+        (λ searched. searched.stopped ≡ true → P.is_over patience.new) }
+    ensures timed { IfOk result
+        (λ searched. searched.stopped ≡ true → is_some job.now.seconds ≡ true) }
     ensures found { IfOk result
         (λ searched. IfSome searched.route (IsFoundRoute (global_said job.now) placed.now)) }
 {
-    let Searched { rounds, route } = searched_route(alloc, job, placed, start)?;
+    patience.told_width(job.width);
+    let Searched {
+        rounds,
+        stopped,
+        route,
+    } = searched_route(alloc, job, placed, start, patience)?;
+    patience.told_rounds(rounds);
     let Some(route) = route else {
         return Ok(Searched {
             rounds,
+            stopped,
             route: None,
         });
     };
     let route = judged_route(alloc, job, placed, route)?;
-    Ok(Searched { rounds, route })
+    tell_route(&route, patience);
+    Ok(Searched {
+        rounds,
+        stopped,
+        route,
+    })
+}
+
+// Tells of a route, if there is one.
+fn tell_route<P: Watch>(route: &Option<RouteText>, patience: &mut P)
+    ensures { P.is_over patience.old → P.is_over patience.new }
+{
+    if let Some(route) = route {
+        patience.told_route(route);
+    }
 }
 
 // What a route is read as from its printed form, if that is judged legal.
@@ -205,24 +275,28 @@ fn write_found<S: Shelf>(
 }
 
 // Looks for a legal route, and writes it.
-fn search_route<S: Shelf>(
+fn search_route<S: Shelf, C: Clock>(
     alloc: Global,
     job: &GlobalJob<'_>,
     placed: &PlacedFiles,
     start: Option<&RouteText>,
     shelf: &mut S,
+    clock: &mut C,
 ) -> Outcome
     requires { IsSoundPlaced placed.now }
-    ensures { LeavesFound (global_said job.now) placed.now (S.state shelf.old)
+    ensures leaves { LeavesFound (global_said job.now) placed.now (S.state shelf.old)
         (S.state shelf.new) result }
+    ensures stopped { AreRoundsStopped result → C.is_over clock.new }
 {
-    let Ok(searched) = legal_route(alloc, job, placed, start) else {
+    set_limit(clock, job.seconds);
+    let Ok(searched) = legal_route(alloc, job, placed, start, clock) else {
         return Outcome::OutOfMemory;
     };
     let Some(found) = searched.route else {
         return Outcome::Unfound {
             width: job.width,
             rounds: searched.rounds,
+            stopped: searched.stopped,
         };
     };
     let done = Outcome::Routed { width: job.width };
@@ -252,21 +326,23 @@ fn say_unreached<S: Shelf>(
 
 // Looks for a net that no wires reach, and says it; where there is none, looks for a legal route,
 // and writes it.
-fn seek_route<S: Shelf>(
+fn seek_route<S: Shelf, C: Clock>(
     alloc: Global,
     job: &GlobalJob<'_>,
     placed: &PlacedFiles,
     start: Option<&RouteText>,
     shelf: &mut S,
+    clock: &mut C,
 ) -> Outcome
     requires { IsSoundPlaced placed.now }
-    ensures { LeavesSought (global_said job.now) placed.now (S.state shelf.old)
+    ensures leaves { LeavesSought (global_said job.now) placed.now (S.state shelf.old)
         (S.state shelf.new) result }
+    ensures stopped { AreRoundsStopped result → C.is_over clock.new }
 {
     let (arch, netlist, placement) = (&placed.arch, &placed.netlist, &placed.placement);
     match unreached_net(alloc, arch, netlist, placement, job.width) {
         Ok(Some(found)) => say_unreached(alloc, netlist, found.net, job.width, shelf),
-        Ok(None) => search_route(alloc, job, placed, start, shelf),
+        Ok(None) => search_route(alloc, job, placed, start, shelf, clock),
         Err(_) => Outcome::OutOfMemory,
     }
 }
@@ -318,24 +394,34 @@ pub(crate) fn read_begun<D: Desk>(
 }
 
 /// Reads the files of a job, looks for a route with its tracks, and writes it; or says a net that
-/// no wires reach, before any search.
+/// no wires reach, before any search. The clock is told of the job's limit before the search, if
+/// there is one, and then asked before each round.
 ///
 /// What is found is printed into memory, read from there and judged, and what was judged is
 /// written: so the search is not relied on, nor is what makes a text of its wires.
-pub fn negotiate_files<D: Desk, S: Shelf>(
+pub fn negotiate_files<D: Desk, S: Shelf, C: Clock>(
     alloc: Global,
     job: &GlobalJob<'_>,
     desk: &mut D,
     shelf: &mut S,
+    clock: &mut C,
 ) -> Outcome
     ensures leaves { LeavesGlobal (global_said job.now)
         (scene (D.state desk.old) (D.state desk.new) (S.state shelf.old) (S.state shelf.new))
         result }
     ensures files { (D.state desk.new).files ≡ (D.state desk.old).files }
     ensures quiet { ¬ IsReadFault result → (D.state desk.new).faults ≡ (D.state desk.old).faults }
+    ensures stopped { AreRoundsStopped result → C.is_over clock.new }
 {
     match read_begun(alloc, job, desk) {
-        Ok(begun) => seek_route(alloc, job, &begun.placed, begun.start.as_ref(), shelf),
+        Ok(begun) => seek_route(
+            alloc,
+            job,
+            &begun.placed,
+            begun.start.as_ref(),
+            shelf,
+            clock,
+        ),
         Err(stop) => stop,
     }
 }

@@ -43,10 +43,11 @@ pub enum Outcome {
     },
     /// In so many rounds, at most as many as were asked for, no route of the placement was found
     /// with its tracks, whether or not there is one; where several widths were tried, it is the
-    /// most rounds that were made at one of them.
+    /// most rounds that were made at one of them. It says too whether the clock ended the rounds.
     Unfound {
         width: u32,
         rounds: u32,
+        stopped: bool,
     },
     /// No routing of the placement has this width: no wires reach a sink of some net, whatever the
     /// other nets have.
@@ -169,7 +170,7 @@ pub fn report(outcome: &Outcome) -> ArrayString<LINE_ROOM>
             line.push_str(" learned clauses");
         }
         Outcome::Bound { tracks, .. } => push_count(&mut line, "bound ", tracks as u64),
-        Outcome::Unfound { width, rounds } => {
+        Outcome::Unfound { width, rounds, .. } => {
             push_count(&mut line, "undecided ", width as u64);
             push_count(&mut line, " after ", rounds as u64);
             line.push_str(" rounds");

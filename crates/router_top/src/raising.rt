@@ -7,6 +7,7 @@ ghost use Rattle.router_top.specs.Raised.{IsRaised};
 
 use cell_bound::{Budget, CellRefutation, refute};
 use fpga_problem::PlacedFiles;
+use patience::Patience;
 use std::alloc::{AllocError, Global};
 
 /// How many windows are looked at with a number of tracks, at the most.
@@ -25,10 +26,11 @@ pub(crate) struct Raised {
 
 // A refutation over cells, by which no routing of the placement has so many tracks or fewer, if one
 // is found.
-fn refuted_at(
+fn refuted_at<P: Patience>(
     alloc: Global,
     placed: &PlacedFiles,
     width: u32,
+    patience: &mut P,
 ) -> Result<Option<CellRefutation>, AllocError>
     requires placed { IsSoundPlaced placed.now }
     requires some { 1 ≤ width }
@@ -40,20 +42,21 @@ fn refuted_at(
         learned: LEARNED,
     };
     let (arch, netlist, placement) = (&placed.arch, &placed.netlist, &placed.placement);
-    refute(alloc, arch, netlist, placement, width, budget)
+    refute(alloc, arch, netlist, placement, width, budget, patience)
 }
 
 /// The bound of a cut that asks for so many tracks, raised by one as often as a refutation is
 /// found, but no further than to `last`. Only the last refutation is kept: it speaks of all lower
-/// widths.
+/// widths. Where the patience is over none is found.
 ///
 /// # Errors
 /// Where memory is short.
-pub(crate) fn raise(
+pub(crate) fn raise<P: Patience>(
     alloc: Global,
     placed: &PlacedFiles,
     cut: u32,
     last: u32,
+    patience: &mut P,
 ) -> Result<Raised, AllocError>
     requires placed { IsSoundPlaced placed.now }
     requires some { 1 ≤ cut }
@@ -67,7 +70,7 @@ pub(crate) fn raise(
         why: None,
     };
     for width in cut..last {
-        let Some(found) = refuted_at(alloc, placed, width)? else {
+        let Some(found) = refuted_at(alloc, placed, width, patience)? else {
             return Ok(raised);
         };
         raised = Raised {

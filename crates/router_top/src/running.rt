@@ -96,8 +96,8 @@ fn work<D: Desk, S: Progress, C: Clock>(
         Ok(Job::Verify(job)) => without_problem(verify_file(alloc, &job, desk, shelf)),
         Ok(Job::Judge(job)) => without_problem(judge_file(alloc, &job, desk)),
         Ok(Job::Bound(job)) => without_problem(bound_files(alloc, &job, desk, shelf)),
-        Ok(Job::Global(job)) => without_problem(negotiate_files(alloc, &job, desk, shelf)),
-        Ok(Job::Least(job)) => narrow_files(alloc, &job, desk, shelf),
+        Ok(Job::Global(job)) => without_problem(negotiate_files(alloc, &job, desk, shelf, clock)),
+        Ok(Job::Least(job)) => narrow_files(alloc, &job, desk, shelf, clock),
         Ok(Job::Gen(job)) => without_problem(generate_files(alloc, &job, shelf)),
         Ok(Job::Trial(job)) => without_problem(trial(alloc, &job, shelf, clock)),
         Err(WordsFault::Refused(cause)) => without_problem(Outcome::Usage { code: cause.code() }),
@@ -153,7 +153,9 @@ fn say_report<S: Shelf>(shelf: &mut S, outcome: Outcome) -> Outcome
 ///
 /// Where `--seconds` is given to `route`, `sweep`, `core` or `trial`, the clock is told of the
 /// limit and asked each time that a search begins anew. Where it says no the search is left open,
-/// with its clauses and log, as where its budget is spent. Without the option no search is stopped.
+/// with its clauses and log, as where its budget is spent. Where it is given to `global` or
+/// `least`, the clock is asked before each round and each window; where it says no none is made,
+/// and no further width is tried. Without the option no search is stopped.
 ///
 /// Where `--reach` is given to `route`, `sweep`, `trial`, `encode` or `decode`, a routing is one in
 /// which a net may take several wires of its cells and reaches each sink within so many joins; the

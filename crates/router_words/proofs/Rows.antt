@@ -32,6 +32,7 @@ told width prefix conflicts keep = record {
   keep = keep;
   count = false;
   method = Strictly;
+  stats = false;
 }
 
 -- a route of the files a, n, p and r
@@ -120,6 +121,21 @@ pub too_many_seconds : route (codes "5" ∷ codes "out" ∷ codes "--seconds=100
     ≡ Err Number
 unfolding clap_on_literals
 too_many_seconds = refl
+
+-- the numbers of the run
+pub tells_numbers : route (codes "5" ∷ codes "out" ∷ codes "--stats" ∷ [])
+    ≡ Ok (Routes (record {
+      files = four_files;
+      search = record (told 5 (codes "out") 1_000_000 false) { stats = true };
+      members = None;
+    }))
+unfolding clap_on_literals
+tells_numbers = refl
+
+pub tells_numbers_twice : route (codes "5" ∷ codes "out" ∷ codes "--stats" ∷ codes "--stats" ∷ [])
+    ≡ Err Form
+unfolding clap_on_literals
+tells_numbers_twice = refl
 
 -- behind `--` no word is an option; a word may be empty
 pub dashes : route (codes "5" ∷ codes "--" ∷ codes "--keep" ∷ [])
@@ -368,6 +384,10 @@ pub encode_names : encode (codes "--names" ∷ codes "--symmetry" ∷ [])
 unfolding clap_on_literals
 encode_names = refl
 
+pub encode_tells_no_numbers : encode (codes "--stats" ∷ []) ≡ Err Form
+unfolding clap_on_literals
+encode_tells_no_numbers = refl
+
 pub names_within : encode (codes "--names" ∷ codes "--reach=2" ∷ [])
     ≡ Ok (Encodes (record {
       files = four_files;
@@ -425,6 +445,7 @@ pub blames : core (codes "--conflicts" ∷ codes "7" ∷ [])
       conflicts = 7;
       seconds = None;
       method = Strictly;
+      stats = false;
     }))
 unfolding clap_on_literals
 blames = refl
@@ -437,9 +458,23 @@ pub blames_in_time : core (codes "--seconds=60" ∷ [])
       conflicts = 1_000_000;
       seconds = Some 60;
       method = Strictly;
+      stats = false;
     }))
 unfolding clap_on_literals
 blames_in_time = refl
+
+pub blames_with_numbers : core (codes "--stats" ∷ [])
+    ≡ Ok (Blames (record {
+      files = four_files;
+      width = 5;
+      prefix = codes "out";
+      conflicts = 1_000_000;
+      seconds = None;
+      method = Strictly;
+      stats = true;
+    }))
+unfolding clap_on_literals
+blames_with_numbers = refl
 
 pub blames_in_order : core (codes "--symmetry" ∷ [])
     ≡ Ok (Blames (record {
@@ -449,6 +484,7 @@ pub blames_in_order : core (codes "--symmetry" ∷ [])
       conflicts = 1_000_000;
       seconds = None;
       method = Ordered;
+      stats = false;
     }))
 unfolding clap_on_literals
 blames_in_order = refl
@@ -578,6 +614,8 @@ pub negotiates : global (codes "5" ∷ codes "out" ∷ [])
       free = false;
       from = None;
       rounds = 500;
+      seconds = None;
+      stats = false;
     }))
 unfolding clap_on_literals
 negotiates = refl
@@ -591,9 +629,44 @@ pub negotiates_from : global (codes "5" ∷ codes "--from" ∷ codes "r" ∷ cod
       free = true;
       from = Some (codes "r");
       rounds = 100_000;
+      seconds = None;
+      stats = false;
     }))
 unfolding clap_on_literals
 negotiates_from = refl
+
+pub negotiates_in_time : global (codes "5" ∷ codes "out" ∷ codes "--seconds=60" ∷ [])
+    ≡ Ok (Negotiates (record {
+      files = three_files;
+      width = 5;
+      prefix = codes "out";
+      free = false;
+      from = None;
+      rounds = 500;
+      seconds = Some 60;
+      stats = false;
+    }))
+unfolding clap_on_literals
+negotiates_in_time = refl
+
+pub negotiates_with_numbers : global (codes "5" ∷ codes "out" ∷ codes "--stats" ∷ [])
+    ≡ Ok (Negotiates (record {
+      files = three_files;
+      width = 5;
+      prefix = codes "out";
+      free = false;
+      from = None;
+      rounds = 500;
+      seconds = None;
+      stats = true;
+    }))
+unfolding clap_on_literals
+negotiates_with_numbers = refl
+
+pub negotiates_in_no_time : global (codes "5" ∷ codes "out" ∷ codes "--seconds=0" ∷ [])
+    ≡ Err Number
+unfolding clap_on_literals
+negotiates_in_no_time = refl
 
 pub negotiates_over : global (codes "5" ∷ codes "d" ∷ codes "--from=d.route" ∷ [])
     ≡ Err Overwriting
@@ -624,6 +697,8 @@ pub narrows : least (codes "64" ∷ codes "out" ∷ [])
       free = false;
       from = None;
       rounds = 500;
+      seconds = None;
+      stats = false;
     }))
 unfolding clap_on_literals
 narrows = refl
@@ -637,9 +712,25 @@ pub narrows_from : least (codes "--rounds" ∷ codes "7" ∷ codes "5" ∷ codes
       free = true;
       from = Some (codes "r");
       rounds = 7;
+      seconds = None;
+      stats = false;
     }))
 unfolding clap_on_literals
 narrows_from = refl
+
+pub narrows_in_time : least (codes "--seconds" ∷ codes "1000000" ∷ codes "64" ∷ codes "out" ∷ [])
+    ≡ Ok (Narrows (record {
+      files = three_files;
+      last = 64;
+      prefix = codes "out";
+      free = false;
+      from = None;
+      rounds = 500;
+      seconds = Some 1_000_000;
+      stats = false;
+    }))
+unfolding clap_on_literals
+narrows_in_time = refl
 
 pub narrows_over : job_of (codes "least" ∷ codes "a" ∷ codes "d.route" ∷ codes "p" ∷ codes "5"
     ∷ codes "d" ∷ []) ≡ Err Overwriting

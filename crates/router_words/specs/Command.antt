@@ -8,7 +8,7 @@ use Rattle.fpga_types.specs.declared.limits.TheConstants.{REACH_LIMIT, SIDE_LIMI
 use Rattle.fpga_problem.specs.Files.{FileNames, PlacedNames}
 use Rattle.router_words.specs.Form.{bound_form, check_form, core_form, decode_form, encode_form, gen_form, global_form, judge_form, least_form, route_form, sweep_form, trial_form, verify_form}
 use Rattle.router_words.specs.Near.{has_one_track}
-use Rattle.router_words.specs.Job.{Blames, Bounds, Checks, Decodes, Encodes, Generates, JobAsked, Judges, MembersAsked, Narrows, Negotiates, RecipeAsked, Routes, SearchAsked, Sweeps, Tries, Verifies, job_said}
+use Rattle.router_words.specs.Job.{Blames, Bounds, Checks, Decodes, Encodes, Generates, JobAsked, Judges, MembersAsked, Narrows, Negotiates, RecipeAsked, Routes, SearchAsked, Sweeps, Tries, Verifies, asks_stats, job_said}
 use Rattle.router_words.specs.Overwriting.{overwrites}
 use Rattle.router_words.specs.Results.{and_then, map_ok}
 use Rattle.router_words.specs.Taken.{HasRequired, is_taken}
@@ -100,8 +100,8 @@ method_asked reach rows =
     if has_flag (codes "symmetry") rows then Ordered else
     method_within reach
 
--- WIDTH PREFIX [--conflicts N] [--seconds T] [--keep] [--count], or with MAX, by a method; within a
--- reach nothing is counted, and the commands refuse both together
+-- WIDTH PREFIX [--conflicts N] [--seconds T] [--keep] [--count] [--stats], or with MAX, by a
+-- method; within a reach nothing is counted, and the commands refuse both together
 abbrev pub search_asked : Method → List Row → Result SearchAsked Refusal
 search_asked method rows =
     and_then (width_asked rows) (λ width.
@@ -114,6 +114,7 @@ search_asked method rows =
       keep = has_flag (codes "keep") rows;
       count = has_flag (codes "count") rows && has_one_track method;
       method = method;
+      stats = has_flag (codes "stats") rows;
     }) (seconds_asked rows)))
 
 -- SEED
@@ -174,8 +175,8 @@ pub record CommandRow : Type 0 where
   pub form : App
   pub job : List Row → Result JobAsked Refusal
 
--- WIDTH PREFIX [--conflicts N] [--seconds T] [--keep] [--count] [--reach L] [--pin] [--symmetry],
--- or with MAX
+-- WIDTH PREFIX [--conflicts N] [--seconds T] [--keep] [--count] [--reach L] [--stats] [--pin]
+-- [--symmetry], or with MAX
 abbrev pub search_by_method : List Row → Result SearchAsked Refusal
 search_by_method rows =
     and_then (reach_asked rows) (λ reach. search_asked (method_asked reach rows) rows)
@@ -243,6 +244,7 @@ core_asked rows =
       conflicts = conflicts;
       seconds = seconds;
       method = method_asked None rows;
+      stats = has_flag (codes "stats") rows;
     })))))
 
 -- what `check` is asked for
@@ -280,27 +282,33 @@ bound_asked rows = Ok (Bounds (record { files = placed_asked rows }))
 abbrev pub global_asked : List Row → Result JobAsked Refusal
 global_asked rows =
     and_then (width_asked rows) (λ width.
-    map_ok (λ rounds. Negotiates (record {
+    and_then (rounds_asked rows) (λ rounds.
+    map_ok (λ seconds. Negotiates (record {
       files = placed_asked rows;
       width = width;
       prefix = word_in (codes "prefix") rows;
       free = has_flag (codes "free") rows;
       from = first_of (codes "from") rows;
       rounds = rounds;
-    })) (rounds_asked rows))
+      seconds = seconds;
+      stats = has_flag (codes "stats") rows;
+    })) (seconds_asked rows)))
 
 -- what `least` is asked for
 abbrev pub least_asked : List Row → Result JobAsked Refusal
 least_asked rows =
     and_then (width_asked rows) (λ last.
-    map_ok (λ rounds. Narrows (record {
+    and_then (rounds_asked rows) (λ rounds.
+    map_ok (λ seconds. Narrows (record {
       files = placed_asked rows;
       last = last;
       prefix = word_in (codes "prefix") rows;
       free = has_flag (codes "free") rows;
       from = first_of (codes "from") rows;
       rounds = rounds;
-    })) (rounds_asked rows))
+      seconds = seconds;
+      stats = has_flag (codes "stats") rows;
+    })) (seconds_asked rows)))
 
 -- what `gen` is asked for
 abbrev pub gen_asked : List Row → Result JobAsked Refusal
@@ -405,6 +413,15 @@ job_behind name words =
 abbrev pub job_of : List Word → Result JobAsked Refusal
 job_of [] = Err Command
 job_of (name ∷ words) = job_behind name words
+
+-- what is asked for is a job, and that the numbers of its run are told
+abbrev pub asked_stats : Result JobAsked Refusal → Bool
+asked_stats (Ok job) = asks_stats job
+asked_stats (Err refusal) = false
+
+-- the words ask for that
+abbrev pub words_ask_stats : List Word → Bool
+words_ask_stats words = asked_stats (job_of words)
 
 -- what is answered where this is asked for: that, or memory ran out
 abbrev pub Answers : Result JobAsked Refusal → Result Job WordsFault → Type 0

@@ -58,9 +58,11 @@ with_effort form =
     with_flag (codes "count") (with_flag (codes "keep")
     (with_option (codes "seconds") (with_option (codes "conflicts") form)))
 
--- WIDTH PREFIX [--conflicts N] [--seconds T] [--keep] [--count] [--reach L], or with MAX
+-- WIDTH PREFIX [--conflicts N] [--seconds T] [--keep] [--count] [--reach L] [--stats], or with MAX
 abbrev pub with_search : App → App
-with_search form = with_option (codes "reach") (with_effort (with_width_and_prefix form))
+with_search form =
+    with_flag (codes "stats") (with_option (codes "reach")
+    (with_effort (with_width_and_prefix form)))
 
 -- SEED NX NETS
 abbrev pub with_recipe : App → App
@@ -78,7 +80,7 @@ abbrev pub with_members : App → App
 with_members form = with_option (codes "seed") (with_option (codes "members") form)
 
 -- ARCH NET PLACE ROUTE WIDTH PREFIX [--conflicts N] [--seconds T] [--keep] [--count] [--reach L]
--- [--pin] [--symmetry] [--members K] [--seed S]
+-- [--stats] [--pin] [--symmetry] [--members K] [--seed S]
 abbrev pub search_form : Word → App
 search_form name = with_members (with_symmetry (with_search (with_files (empty_form name))))
 
@@ -102,11 +104,12 @@ decode_form =
     (with_symmetry (with_word (codes "prefix") (with_word (codes "model")
     (with_word (codes "width") (with_files (empty_form (codes "decode")))))))
 
--- ARCH NET PLACE ROUTE WIDTH PREFIX [--conflicts N] [--seconds T] [--pin] [--symmetry]
+-- ARCH NET PLACE ROUTE WIDTH PREFIX [--conflicts N] [--seconds T] [--pin] [--symmetry] [--stats]
 abbrev pub core_form : App
 core_form =
-    with_symmetry (with_option (codes "seconds") (with_option (codes "conflicts")
-    (with_width_and_prefix (with_files (empty_form (codes "core"))))))
+    with_flag (codes "stats") (with_symmetry (with_option (codes "seconds")
+    (with_option (codes "conflicts") (with_width_and_prefix
+    (with_files (empty_form (codes "core")))))))
 
 -- CNF LRAT
 abbrev pub check_form : App
@@ -126,10 +129,13 @@ judge_form = with_flag (codes "strict") (with_word (codes "routed") (with_word (
 abbrev pub bound_form : App
 bound_form = with_placed (empty_form (codes "bound"))
 
--- ARCH NET PLACE WIDTH PREFIX [--free] [--from ROUTE] [--rounds N], or with MAX
+-- ARCH NET PLACE WIDTH PREFIX [--free] [--from ROUTE] [--rounds N] [--seconds T]
+-- [--stats], or with MAX
 abbrev pub with_negotiation : App → App
-with_negotiation form = with_option (codes "rounds") (with_option (codes "from")
-    (with_flag (codes "free") (with_width_and_prefix (with_placed form))))
+with_negotiation form =
+    with_flag (codes "stats") (with_option (codes "seconds") (with_option (codes "rounds")
+    (with_option (codes "from") (with_flag (codes "free")
+    (with_width_and_prefix (with_placed form))))))
 
 abbrev pub global_form : App
 global_form = with_negotiation (empty_form (codes "global"))
@@ -142,7 +148,7 @@ least_form = with_negotiation (empty_form (codes "least"))
 abbrev pub gen_form : App
 gen_form = with_word (codes "prefix") (with_recipe (empty_form (codes "gen")))
 
--- SEED NX NETS MAX PREFIX [--conflicts N] [--seconds T] [--keep] [--count] [--reach L]
+-- SEED NX NETS MAX PREFIX [--conflicts N] [--seconds T] [--keep] [--count] [--reach L] [--stats]
 abbrev pub trial_form : App
 trial_form = with_search (with_recipe (empty_form (codes "trial")))
 

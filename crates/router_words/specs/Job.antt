@@ -1,5 +1,5 @@
 -- What the words of a command ask for.
-use Rattle.std.specs.Prelude.{ℕ, Bool, Option, option_map}
+use Rattle.std.specs.Prelude.{ℕ, Bool, false, Option, option_map}
 use Rattle.fpga_problem.specs.Files.{FileNames, PlacedNames, names_said, placed_names_said}
 use Rattle.router_words.specs.Word.{Word}
 use Rattle.router_words.specs.declared.job.BoundJob.{BoundJob}
@@ -25,7 +25,8 @@ use Rattle.router_words.specs.declared.method.Method.{Method}
 -- what a search is told: the width, or the greatest one that is tried; what the names of written
 -- files begin with; how many clauses may be learned at each width, after how many seconds searches
 -- are stopped, if they are, and whether no clause is deleted; whether a width that numbers alone
--- forbid is refuted by counting; and how routings are said by clauses
+-- forbid is refuted by counting; how routings are said by clauses; and whether the numbers of the
+-- run are told
 pub record SearchAsked : Type 0 where
   pub width : ℕ
   pub prefix : Word
@@ -34,6 +35,7 @@ pub record SearchAsked : Type 0 where
   pub keep : Bool
   pub count : Bool
   pub method : Method
+  pub stats : Bool
 
 -- searches that take turns: how many, and the number by which their order is drawn
 pub record MembersAsked : Type 0 where
@@ -73,7 +75,7 @@ pub record DecodeAsked : Type 0 where
 
 -- to look for a routing, or else for the nets to blame: the files, the width, what the names of
 -- written files begin with, how many clauses may be learned, after how many seconds the search is
--- stopped, if it is, and how routings are said by clauses
+-- stopped, if it is, how routings are said by clauses, and whether the numbers of the run are told
 pub record CoreAsked : Type 0 where
   pub files : FileNames
   pub width : ℕ
@@ -81,6 +83,7 @@ pub record CoreAsked : Type 0 where
   pub conflicts : ℕ
   pub seconds : Option ℕ
   pub method : Method
+  pub stats : Bool
 
 -- to check a refutation: the names of the CNF file and of the LRAT file
 pub record CheckAsked : Type 0 where
@@ -111,8 +114,9 @@ pub record BoundAsked : Type 0 where
 
 -- to look for a route of a placement together with its tracks: the files of the placed netlist, the
 -- width, what the name of the written file begins with, whether a net may have several wires of a
--- cell, the file with the route to begin with, if there is one, and after how many rounds to give
--- up
+-- cell, the file with the route to begin with, if there is one, after how many rounds to give up,
+-- after how many seconds the search is stopped, if it is, and whether the numbers of the run are
+-- told
 pub record GlobalAsked : Type 0 where
   pub files : PlacedNames
   pub width : ℕ
@@ -120,11 +124,14 @@ pub record GlobalAsked : Type 0 where
   pub free : Bool
   pub from : Option Word
   pub rounds : ℕ
+  pub seconds : Option ℕ
+  pub stats : Bool
 
 -- to look for the least width that has a route of a placement: the files of the placed netlist, the
 -- greatest width that is tried, what the name of the written file begins with, whether a net may
--- have several wires of a cell, the file with the route to begin with, if there is one, and after
--- how many rounds to give up at a width
+-- have several wires of a cell, the file with the route to begin with, if there is one, after how
+-- many rounds to give up at a width, after how many seconds searches are stopped, if they are, and
+-- whether the numbers of the run are told
 pub record LeastAsked : Type 0 where
   pub files : PlacedNames
   pub last : ℕ
@@ -132,6 +139,8 @@ pub record LeastAsked : Type 0 where
   pub free : Bool
   pub from : Option Word
   pub rounds : ℕ
+  pub seconds : Option ℕ
+  pub stats : Bool
 
 -- what a generated problem is made from: a number, how many logic blocks each side of its array
 -- has, and how many nets it has
@@ -178,6 +187,7 @@ search_said search = record {
   keep = search.keep;
   count = search.count;
   method = search.method;
+  stats = search.stats;
 }
 
 abbrev pub members_said : Members → MembersAsked
@@ -226,6 +236,7 @@ core_said job = record {
   conflicts = job.conflicts;
   seconds = job.seconds;
   method = job.method;
+  stats = job.stats;
 }
 
 abbrev pub check_said : CheckJob → CheckAsked
@@ -259,6 +270,8 @@ global_said job = record {
   free = job.free;
   from = option_map (λ word. word.now) job.from;
   rounds = job.rounds;
+  seconds = job.seconds;
+  stats = job.stats;
 }
 
 abbrev pub least_said : LeastJob → LeastAsked
@@ -269,6 +282,8 @@ least_said job = record {
   free = job.free;
   from = option_map (λ word. word.now) job.from;
   rounds = job.rounds;
+  seconds = job.seconds;
+  stats = job.stats;
 }
 
 abbrev pub recipe_said : Recipe → RecipeAsked
@@ -294,3 +309,15 @@ job_said (Global job) = Negotiates (global_said job)
 job_said (Least job) = Narrows (least_said job)
 job_said (Gen job) = Generates (gen_said job)
 job_said (Trial job) = Tries (trial_said job)
+
+-- ---- what is asked of a job
+
+-- the numbers of the run are to be told
+abbrev pub asks_stats : JobAsked → Bool
+asks_stats (Routes job) = job.search.stats
+asks_stats (Sweeps job) = job.search.stats
+asks_stats (Blames job) = job.stats
+asks_stats (Negotiates job) = job.stats
+asks_stats (Narrows job) = job.stats
+asks_stats (Tries job) = job.search.stats
+asks_stats job = false

@@ -90,7 +90,8 @@ fn add_search<'a>(alloc: Global, command: Command<'a>) -> Result<Command<'a>, Al
 {
     let command = add_width_and_prefix(alloc, command)?;
     let command = add_effort(alloc, command)?;
-    add_option(alloc, command, "reach")
+    let command = add_option(alloc, command, "reach")?;
+    add_flag(alloc, command, "stats")
 }
 
 // With what a generated problem is made from.
@@ -119,7 +120,7 @@ fn add_members<'a>(alloc: Global, command: Command<'a>) -> Result<Command<'a>, A
 }
 
 /// ARCH NET PLACE ROUTE WIDTH PREFIX [--conflicts N] [--seconds T] [--keep] [--count] [--reach L]
-/// [--pin] [--symmetry] [--members K] [--seed S], behind this name of a command.
+/// [--stats] [--pin] [--symmetry] [--members K] [--seed S], behind this name of a command.
 pub fn search_command<'a>(alloc: Global, name: &'a str) -> Result<Command<'a>, AllocError>
     ensures { IfOk result (λ c. app_of c ≡ search_form name.entry.now) }
 {
@@ -152,7 +153,7 @@ pub fn decode_command<'a>(alloc: Global) -> Result<Command<'a>, AllocError>
     add_option(alloc, command, "reach")
 }
 
-/// ARCH NET PLACE ROUTE WIDTH PREFIX [--conflicts N] [--seconds T] [--pin] [--symmetry]
+/// ARCH NET PLACE ROUTE WIDTH PREFIX [--conflicts N] [--seconds T] [--pin] [--symmetry] [--stats]
 pub fn core_command<'a>(alloc: Global) -> Result<Command<'a>, AllocError>
     ensures { IfOk result (λ c. app_of c ≡ core_form) }
 {
@@ -160,7 +161,8 @@ pub fn core_command<'a>(alloc: Global) -> Result<Command<'a>, AllocError>
     let command = add_width_and_prefix(alloc, command)?;
     let command = add_option(alloc, command, "conflicts")?;
     let command = add_option(alloc, command, "seconds")?;
-    add_symmetry(alloc, command)
+    let command = add_symmetry(alloc, command)?;
+    add_flag(alloc, command, "stats")
 }
 
 /// CNF LRAT
@@ -207,17 +209,19 @@ fn add_negotiation<'a>(alloc: Global, command: Command<'a>) -> Result<Command<'a
     let command = add_width_and_prefix(alloc, placed)?;
     let command = add_flag(alloc, command, "free")?;
     let command = add_option(alloc, command, "from")?;
-    add_option(alloc, command, "rounds")
+    let command = add_option(alloc, command, "rounds")?;
+    let command = add_option(alloc, command, "seconds")?;
+    add_flag(alloc, command, "stats")
 }
 
-/// ARCH NET PLACE WIDTH PREFIX [--free] [--from ROUTE] [--rounds N]
+/// ARCH NET PLACE WIDTH PREFIX [--free] [--from ROUTE] [--rounds N] [--seconds T] [--stats]
 pub fn global_command<'a>(alloc: Global) -> Result<Command<'a>, AllocError>
     ensures { IfOk result (λ c. app_of c ≡ global_form) }
 {
     add_negotiation(alloc, named(alloc, "global"))
 }
 
-/// ARCH NET PLACE MAX PREFIX [--free] [--from ROUTE] [--rounds N]
+/// ARCH NET PLACE MAX PREFIX [--free] [--from ROUTE] [--rounds N] [--seconds T] [--stats]
 pub fn least_command<'a>(alloc: Global) -> Result<Command<'a>, AllocError>
     ensures { IfOk result (λ c. app_of c ≡ least_form) }
 {
@@ -232,7 +236,7 @@ pub fn gen_command<'a>(alloc: Global) -> Result<Command<'a>, AllocError>
     add_word(alloc, command, "prefix")
 }
 
-/// SEED NX NETS MAX PREFIX [--conflicts N] [--seconds T] [--keep] [--count] [--reach L]
+/// SEED NX NETS MAX PREFIX [--conflicts N] [--seconds T] [--keep] [--count] [--reach L] [--stats]
 pub fn trial_command<'a>(alloc: Global) -> Result<Command<'a>, AllocError>
     ensures { IfOk result (λ c. app_of c ≡ trial_form) }
 {

@@ -186,6 +186,7 @@ fn search<'a>(matches: &ArgMatches<'a>, method: Method) -> Result<SearchJob<'a>,
     let width = width(matches)?;
     let conflicts = conflicts(matches)?;
     let seconds = seconds(matches)?;
+    let stats = has_flag(matches, "stats");
     Ok(SearchJob {
         width,
         prefix: required_word(matches, "prefix"),
@@ -194,6 +195,7 @@ fn search<'a>(matches: &ArgMatches<'a>, method: Method) -> Result<SearchJob<'a>,
         keep: has_flag(matches, "keep"),
         count: has_flag(matches, "count") && has_one_track(method),
         method,
+        stats,
     })
 }
 
@@ -350,6 +352,7 @@ pub fn core_job<'a>(matches: &ArgMatches<'a>) -> Result<Job<'a>, Refusal>
         conflicts,
         seconds,
         method: method(matches, None),
+        stats: has_flag(matches, "stats"),
     }))
 }
 
@@ -411,6 +414,7 @@ pub fn global_job<'a>(matches: &ArgMatches<'a>) -> Result<Job<'a>, Refusal>
 {
     let width = width(matches)?;
     let rounds = rounds(matches)?;
+    let seconds = seconds(matches)?;
     Ok(Job::Global(GlobalJob {
         files: placed_names(matches),
         width,
@@ -418,6 +422,8 @@ pub fn global_job<'a>(matches: &ArgMatches<'a>) -> Result<Job<'a>, Refusal>
         free: has_flag(matches, "free"),
         from: first_word(matches, "from"),
         rounds,
+        seconds,
+        stats: has_flag(matches, "stats"),
     }))
 }
 
@@ -428,6 +434,7 @@ pub fn least_job<'a>(matches: &ArgMatches<'a>) -> Result<Job<'a>, Refusal>
 {
     let last = width(matches)?;
     let rounds = rounds(matches)?;
+    let seconds = seconds(matches)?;
     Ok(Job::Least(LeastJob {
         files: placed_names(matches),
         last,
@@ -435,6 +442,8 @@ pub fn least_job<'a>(matches: &ArgMatches<'a>) -> Result<Job<'a>, Refusal>
         free: has_flag(matches, "free"),
         from: first_word(matches, "from"),
         rounds,
+        seconds,
+        stats: has_flag(matches, "stats"),
     }))
 }
 

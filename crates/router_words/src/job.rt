@@ -26,6 +26,8 @@ pub struct SearchJob<'a> {
     pub count: bool,
     /// How routings are said by clauses.
     pub method: Method,
+    /// Whether the numbers of the run are told.
+    pub stats: bool,
     ghost in_range: { (1 ≤ width) × (width ≤ WIDTH_LIMIT) },
     ghost affordable: { (1 ≤ conflicts) × (conflicts ≤ BUDGET_LIMIT) },
     ghost timed: { IfSome seconds (λ n. (1 ≤ n) × (n ≤ SECOND_LIMIT)) } by { Prim.hlevel props },
@@ -115,6 +117,8 @@ pub struct CoreJob<'a> {
     pub seconds: Option<u32>,
     /// How routings are said by clauses: with one track of each cell for a net.
     pub method: Method,
+    /// Whether the numbers of the run are told.
+    pub stats: bool,
     ghost in_range: { (1 ≤ width) × (width ≤ WIDTH_LIMIT) },
     ghost affordable: { (1 ≤ conflicts) × (conflicts ≤ BUDGET_LIMIT) },
     ghost timed: { IfSome seconds (λ n. (1 ≤ n) × (n ≤ SECOND_LIMIT)) } by { Prim.hlevel props },
@@ -185,8 +189,13 @@ pub struct GlobalJob<'a> {
     pub from: Option<&'a str>,
     /// After how many rounds the search gives up, from 1 to 100,000.
     pub rounds: u32,
+    /// After how many seconds of the run the search is stopped, from 1 to 1,000,000, if it is.
+    pub seconds: Option<u32>,
+    /// Whether the numbers of the run are told.
+    pub stats: bool,
     ghost in_range: { (1 ≤ width) × (width ≤ WIDTH_LIMIT) },
     ghost patient: { (1 ≤ rounds) × (rounds ≤ ROUND_LIMIT) },
+    ghost timed: { IfSome seconds (λ n. (1 ≤ n) × (n ≤ SECOND_LIMIT)) } by { Prim.hlevel props },
 }
 
 /// To look for the least width that has a route of a placement.
@@ -205,8 +214,14 @@ pub struct LeastJob<'a> {
     pub from: Option<&'a str>,
     /// After how many rounds the search at a width gives up, from 1 to 100,000.
     pub rounds: u32,
+    /// After how many seconds of the run its searches are stopped, from 1 to 1,000,000, if they
+    /// are.
+    pub seconds: Option<u32>,
+    /// Whether the numbers of the run are told.
+    pub stats: bool,
     ghost in_range: { (1 ≤ last) × (last ≤ WIDTH_LIMIT) },
     ghost patient: { (1 ≤ rounds) × (rounds ≤ ROUND_LIMIT) },
+    ghost timed: { IfSome seconds (λ n. (1 ≤ n) × (n ≤ SECOND_LIMIT)) } by { Prim.hlevel props },
 }
 
 /// What a generated problem is made from.
@@ -270,4 +285,29 @@ pub enum Job<'a> {
     Gen(GenJob<'a>),
     /// The least width that has a routing of a generated problem.
     Trial(TrialJob<'a>),
+}
+
+impl<'a> Job<'a> {
+    ghost use Rattle.router_words.specs.Job.{asks_stats, job_said};
+
+    /// Whether the numbers of the run are told.
+    pub fn asks_stats(&self) -> bool
+        ensures { result ≡ asks_stats (job_said self.now) }
+    {
+        match self {
+            Job::Route(job) => job.search.stats,
+            Job::Sweep(job) => job.search.stats,
+            Job::Core(job) => job.stats,
+            Job::Global(job) => job.stats,
+            Job::Least(job) => job.stats,
+            Job::Trial(job) => job.search.stats,
+            Job::Encode(_)
+            | Job::Decode(_)
+            | Job::Check(_)
+            | Job::Verify(_)
+            | Job::Judge(_)
+            | Job::Bound(_)
+            | Job::Gen(_) => false,
+        }
+    }
 }

@@ -63,4 +63,4 @@ pub use limits::{
     SECOND_LIMIT, SEED_DEFAULT, SEED_LIMIT,
 };
 pub use method::Method;
-pub use read::read_words;
+pub use read::{asks_stats, read_words};

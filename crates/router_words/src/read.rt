@@ -1,6 +1,6 @@
 //! The words of a command, read.
 ghost use Rattle.std.specs.Prelude.{◌≡◌, IfOk, IfSome};
-ghost use Rattle.router_words.specs.Command.{Answers, AreThere, HasItsWords, command_named, job_behind, job_of, unless_overwriting};
+ghost use Rattle.router_words.specs.Command.{Answers, AreThere, HasItsWords, command_named, job_behind, job_of, unless_overwriting, words_ask_stats};
 ghost use Rattle.router_words.specs.Job.{job_said};
 ghost use Rattle.router_words.specs.Word.{words_of};
 
@@ -9,7 +9,7 @@ use crate::fault::{Refusal, WordsFault};
 use crate::job::Job;
 use crate::matched::take;
 use crate::overwriting::overwrites;
-use std::alloc::Global;
+use std::alloc::{AllocError, Global};
 
 // Reads the words behind the name of a command.
 fn read_command<'a>(alloc: Global, name: &str, words: &'a [String]) -> Result<Job<'a>, WordsFault>
@@ -56,4 +56,18 @@ pub fn read_words<'a>(alloc: Global, words: &'a [String]) -> Result<Job<'a>, Wor
         return Err(WordsFault::Refused(Refusal::Command));
     };
     read_command(alloc, name.as_str(), others)
+}
+
+/// Whether the words of a command ask for the numbers of the run.
+///
+/// # Errors
+/// Where memory is short.
+pub fn asks_stats(alloc: Global, words: &[String]) -> Result<bool, AllocError>
+    ensures { IfOk result (λ asks. asks ≡ words_ask_stats (words_of words.now)) }
+{
+    match read_words(alloc, words) {
+        Ok(job) => Ok(job.asks_stats()),
+        Err(WordsFault::Refused(_)) => Ok(false),
+        Err(WordsFault::Memory) => Err(AllocError),
+    }
 }

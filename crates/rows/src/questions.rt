@@ -1,8 +1,11 @@
 //! A caller that lets searches go on so often.
 ghost use Rattle.std.specs.Prelude.{◌≡◌, Some};
 
+use fpga_types::RouteText;
 use patience::Patience;
+use route_sweep::Watch;
 use router_top::Clock;
+use sat_clause::{Formula, Log};
 
 /// A caller that says yes so many times, and then no; or yes each time.
 #[derive(Clone, Copy)]
@@ -36,6 +39,21 @@ impl Patience for Questions {
         self.yes = Some(yes - 1);
         true
     }
+}
+
+// It looks at nothing.
+impl Watch for Questions {
+    fn told_width(&mut self, _width: u32) {}
+
+    fn told_clauses(&mut self, _formula: &Formula) {}
+
+    fn told_restarts(&mut self, _count: u64) {}
+
+    fn told_log(&mut self, _log: &Log) {}
+
+    fn told_rounds(&mut self, _rounds: u32) {}
+
+    fn told_route(&mut self, _route: &RouteText) {}
 }
 
 // So is the clock of a run whose words set a limit, however large.

@@ -101,6 +101,8 @@ has_option Trial Conflicts = true
 has_option Route Seconds = true
 has_option Sweep Seconds = true
 has_option Core Seconds = true
+has_option Global Seconds = true
+has_option Least Seconds = true
 has_option Trial Seconds = true
 has_option Route Reach = true
 has_option Sweep Reach = true
@@ -128,18 +130,21 @@ option_of command word =
 abbrev pub is_symmetry : Word → Bool
 is_symmetry word = bytes_eq word (codes "--pin") || bytes_eq word (codes "--symmetry")
 
+-- what a search may be told without a value
+abbrev pub is_effort : Word → Bool
+is_effort word = bytes_eq word (codes "--keep")
+    || (bytes_eq word (codes "--count") || bytes_eq word (codes "--stats"))
+
 -- whether a word is an option of the command that has no value
 abbrev pub has_flag : Command → Word → Bool
-has_flag Route word =
-    is_symmetry word || bytes_eq word (codes "--keep") || bytes_eq word (codes "--count")
-has_flag Sweep word =
-    is_symmetry word || bytes_eq word (codes "--keep") || bytes_eq word (codes "--count")
+has_flag Route word = is_symmetry word || is_effort word
+has_flag Sweep word = is_symmetry word || is_effort word
 has_flag Encode word = is_symmetry word || bytes_eq word (codes "--names")
 has_flag Decode word = is_symmetry word
-has_flag Core word = is_symmetry word
-has_flag Trial word = bytes_eq word (codes "--keep") || bytes_eq word (codes "--count")
+has_flag Core word = is_symmetry word || bytes_eq word (codes "--stats")
+has_flag Trial word = is_effort word
 has_flag Verify word = bytes_eq word (codes "--all")
 has_flag Judge word = bytes_eq word (codes "--strict")
-has_flag Global word = bytes_eq word (codes "--free")
-has_flag Least word = bytes_eq word (codes "--free")
+has_flag Global word = bytes_eq word (codes "--free") || bytes_eq word (codes "--stats")
+has_flag Least word = bytes_eq word (codes "--free") || bytes_eq word (codes "--stats")
 has_flag _ word = false

@@ -147,12 +147,21 @@ impl Command {
         ensures { result ≡ spec.has_option self item }
     {
         match item {
-            Item::Conflicts | Item::Seconds => {
+            Item::Conflicts => {
                 matches!(
                     self,
                     Command::Route | Command::Sweep | Command::Core | Command::Trial
                 )
             }
+            Item::Seconds => matches!(
+                self,
+                Command::Route
+                    | Command::Sweep
+                    | Command::Core
+                    | Command::Global
+                    | Command::Least
+                    | Command::Trial
+            ),
             Item::Reach => matches!(
                 self,
                 Command::Route
@@ -173,18 +182,24 @@ impl Command {
         ensures { result ≡ spec.has_flag self word.now }
     {
         match self {
-            Command::Route | Command::Sweep => {
-                is_symmetry(word) || word == "--keep" || word == "--count"
-            }
+            Command::Route | Command::Sweep => is_symmetry(word) || is_effort(word),
             Command::Encode => is_symmetry(word) || word == "--names",
-            Command::Decode | Command::Core => is_symmetry(word),
-            Command::Trial => word == "--keep" || word == "--count",
+            Command::Decode => is_symmetry(word),
+            Command::Core => is_symmetry(word) || word == "--stats",
+            Command::Trial => is_effort(word),
             Command::Verify => word == "--all",
             Command::Judge => word == "--strict",
-            Command::Global | Command::Least => word == "--free",
+            Command::Global | Command::Least => word == "--free" || word == "--stats",
             Command::Check | Command::Bound | Command::Gen => false,
         }
     }
+}
+
+// What a search may be told without a value.
+fn is_effort(word: &str) -> bool
+    ensures { result ≡ spec.is_effort word.now }
+{
+    word == "--keep" || word == "--count" || word == "--stats"
 }
 
 // A way to break the symmetry of tracks.

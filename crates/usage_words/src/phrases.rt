@@ -27,12 +27,12 @@ pub(crate) const CLASH_OF_SEARCHES: &str =
 // What a command takes.
 pub(crate) const TAKES_ROUTE: &str =
     "route ARCH NET PLACE ROUTE WIDTH PREFIX [--conflicts N] [--seconds T] [--keep] \
-    [--count] [--pin | --symmetry | --reach L] [--members K] [--seed S], \
+    [--count] [--pin | --symmetry | --reach L] [--members K] [--seed S] [--stats], \
     WIDTH and L from 1 to 64, K to 8";
 
 pub(crate) const TAKES_SWEEP: &str =
     "sweep ARCH NET PLACE ROUTE MAX PREFIX [--conflicts N] [--seconds T] [--keep] \
-    [--count] [--pin | --symmetry | --reach L] [--members K] [--seed S], \
+    [--count] [--pin | --symmetry | --reach L] [--members K] [--seed S] [--stats], \
     MAX and L from 1 to 64, K to 8";
 
 pub(crate) const TAKES_ENCODE: &str =
@@ -45,7 +45,7 @@ pub(crate) const TAKES_DECODE: &str =
 
 pub(crate) const TAKES_CORE: &str =
     "core ARCH NET PLACE ROUTE WIDTH PREFIX [--conflicts N] [--seconds T] \
-    [--pin | --symmetry], WIDTH from 1 to 64";
+    [--pin | --symmetry] [--stats], WIDTH from 1 to 64";
 
 pub(crate) const TAKES_CHECK: &str = "check CNF LRAT";
 
@@ -58,19 +58,19 @@ pub(crate) const TAKES_JUDGE: &str =
 pub(crate) const TAKES_BOUND: &str = "bound ARCH NET PLACE";
 
 pub(crate) const TAKES_GLOBAL: &str =
-    "global ARCH NET PLACE WIDTH PREFIX [--free] [--from ROUTE] [--rounds N], WIDTH from \
-    1 to 64, N to 100,000";
+    "global ARCH NET PLACE WIDTH PREFIX [--free] [--from ROUTE] [--rounds N] [--seconds T] \
+    [--stats], WIDTH from 1 to 64, N to 100,000";
 
 pub(crate) const TAKES_LEAST: &str =
-    "least ARCH NET PLACE MAX PREFIX [--free] [--from ROUTE] [--rounds N], MAX from 1 to \
-    64, N to 100,000";
+    "least ARCH NET PLACE MAX PREFIX [--free] [--from ROUTE] [--rounds N] [--seconds T] \
+    [--stats], MAX from 1 to 64, N to 100,000";
 
 pub(crate) const TAKES_GEN: &str =
     "gen SEED NX NETS PREFIX, NX from 1 to 100, NETS from 1 to 10,000";
 
 pub(crate) const TAKES_TRIAL: &str =
     "trial SEED NX NETS MAX PREFIX [--conflicts N] [--seconds T] [--keep] \
-    [--count | --reach L], NX from 1 to 100, MAX and L to 64";
+    [--count | --reach L] [--stats], NX from 1 to 100, MAX and L to 64";
 
 // A command as it may be given.
 pub(crate) const EXAMPLE_ROUTE: &str =

@@ -1,4 +1,4 @@
-use Rattle.std.proofs.Common.{◌≡◌, ap, subst, sym, inl, inr}
+use Rattle.std.proofs.Common.{◌≡◌, ap, subst, sym, inl, inr, refl}
 use Rattle.fpga_types.specs.declared.netlist.Netlist.{Netlist}
 use Rattle.router_words.specs.Job.{least_said}
 use Rattle.router_top.specs.Bound.{cut_lines}
@@ -7,6 +7,7 @@ use Rattle.router_top.specs.Subject.{FailsToSay, ShelfState, after_say}
 use Rattle.router_top.specs.declared.negotiating.Begun.{Begun}
 use Rattle.router_top.specs.Reasons.{IsUnraised}
 use Rattle.router_top.proofs.ReasonLaws.{raised-behind}
+use Rattle.router_top.proofs.StoppedLaws.{is-unstopped}
 use Rattle.router_top.proofs.narrowing.narrow_cut.Goals as goal
 
 pub returns-in-Ok-clause-leaves : goal.returns-in-Ok-clause-leaves
@@ -42,4 +43,10 @@ pub returns-in-Err-clause-none : goal.returns-in-Err-clause-none
 returns-in-Err-clause-none g c none = elim c.in-Err.ensures [
   | inl short ↦ subst IsUnraised (sym short.0) tt
   | inr fails ↦ subst IsUnraised (sym fails.1) tt
+]
+
+pub returns-in-Err-clause-stopped : goal.returns-in-Err-clause-stopped
+returns-in-Err-clause-stopped g c stopped = elim c.in-Err.ensures [
+  | inl short ↦ absurd (is-unstopped _ _ short.0 refl stopped)
+  | inr fails ↦ absurd (is-unstopped _ _ fails.1 refl stopped)
 ]

@@ -1,7 +1,9 @@
 use Rattle.std.proofs.Common.{inr, subst, sym}
-use Rattle.router_words.specs.Job.{least_said}
+use Rattle.fpga_problem.specs.Sources.{IsStopped}
+use Rattle.router_words.specs.Job.{global_said, least_said}
 use Rattle.router_top.specs.Run.{LeavesLeast, scene}
 use Rattle.router_top.proofs.ReasonLaws.{given-back}
+use Rattle.router_top.proofs.StoppedLaws.{lacking-unstopped}
 use Rattle.router_top.proofs.narrowing.narrow_files.Goals as goal
 
 pub returns-in-Ok-clause-leaves : goal.returns-in-Ok-clause-leaves
@@ -26,3 +28,14 @@ returns-in-Ok-clause-reason g c =
 pub returns-in-Err-clause-quiet : goal.returns-in-Err-clause-quiet
 returns-in-Err-clause-quiet g c told =
     c.in-Err.ensures.quiet (λ fails. told (rw c.without_problem.ensures fails))
+
+pub returns-in-Ok-clause-stopped : goal.returns-in-Ok-clause-stopped
+returns-in-Ok-clause-stopped g c stopped =
+    c.narrow_placed-ended.ensures.stopped (rw c.ran_by.ensures.outcome at stopped)
+
+pub returns-in-Err-clause-stopped : goal.returns-in-Err-clause-stopped
+returns-in-Err-clause-stopped g c stopped =
+    absurd (lacking-unstopped
+    (IsStopped (g.D.Desk.state c.args.desk.now) (g.D.Desk.state c.read_begun.new.desk))
+    (g.D.Desk.state c.args.desk.now).files (global_said c.at_width.result) c.in-Err.stop
+    c.in-Err.ensures.lacks (rw c.without_problem.ensures at stopped))

@@ -1,12 +1,13 @@
-use Rattle.std.proofs.Common.{◌≡◌, ◌∙◌, inl, inr, subst}
+use Rattle.std.proofs.Common.{◌≡◌, ◌∙◌, inl, inr, refl, subst}
 use Rattle.router_words.specs.Job.{least_said}
 use Rattle.router_top.specs.Raised.{least_names, narrowed_files}
 use Rattle.router_top.specs.Subject.{Narrowed, ShelfState}
 use Rattle.router_top.specs.Written.{WritesFiles}
+use Rattle.router_top.proofs.StoppedLaws.{is-unstopped}
 use Rattle.router_top.proofs.narrowing.search_from.Goals as goal
 
-pub returns : goal.returns
-returns g c =
+pub returns-clause-leaves : goal.returns-clause-leaves
+returns-clause-leaves g c =
     let stays : g.S.Shelf.state c.first_found.new.shelf ≡ g.S.Shelf.state c.args.shelf.now =
     c.first_found.ensures.stays ∙ c.tell_raised.ensures in
     elim c.write_narrowed.ensures [
@@ -22,3 +23,12 @@ returns g c =
             (rw c.in-Some.is at writes),
       )
     ]
+
+pub returns-clause-stopped : goal.returns-clause-stopped
+returns-clause-stopped g c stopped = elim c.write_narrowed.ensures [
+  | inl short ↦ absurd (is-unstopped _ _ short.0 refl stopped)
+  | inr writes ↦ elim writes [
+    | inl done ↦ absurd (is-unstopped _ _ done.0 refl stopped)
+    | inr fails ↦ absurd (is-unstopped _ _ fails.2 refl stopped)
+  ]
+]

@@ -8,18 +8,18 @@ pub returns-clause-leaves : goal.returns-clause-leaves
 returns-clause-leaves g c = raised-leaves (least_said c.args.job.now) c.args.begun.now.placed
     c.args.cut.now c.in-Ok.raised (g.S.Shelf.state c.args.shelf.now)
     (g.S.Shelf.state c.search_from-outcome.new.shelf) c.search_from-outcome.result
-    (rw c.in-Ok.is at c.raise.ensures.raised) (search rules) c.search_from-outcome.ensures
+    (rw c.in-Ok.is at c.raised_bound.ensures) (search rules) c.search_from-outcome.ensures.leaves
 
 pub returns-clause-why : goal.returns-clause-why
 returns-clause-why g c =
     rw c.given_why.ensures (gives-why (least_said c.args.job.now) c.args.begun.now.placed
-    c.args.cut.now.tracks c.in-Ok.raised (rw c.in-Ok.is at c.raise.ensures.raised)
+    c.args.cut.now.tracks c.in-Ok.raised (rw c.in-Ok.is at c.raised_bound.ensures)
     (g.S.Shelf.state c.args.shelf.now) (g.S.Shelf.state c.search_from-outcome.new.shelf)
-    c.search_from-outcome.result c.search_from-outcome.ensures)
+    c.search_from-outcome.result c.search_from-outcome.ensures.leaves)
 
 pub returns-clause-none : goal.returns-clause-none
 returns-clause-none g c none =
     lacks-why (least_said c.args.job.now) c.args.begun.now.placed c.args.cut.now.tracks
-    c.in-Ok.raised (rw c.in-Ok.is at c.raise.ensures.raised) (g.S.Shelf.state c.args.shelf.now)
+    c.in-Ok.raised (rw c.in-Ok.is at c.raised_bound.ensures) (g.S.Shelf.state c.args.shelf.now)
     (g.S.Shelf.state c.search_from-outcome.new.shelf) c.search_from-outcome.result
-    c.search_from-outcome.ensures (rw c.given_why.ensures at none)
+    c.search_from-outcome.ensures.leaves (rw c.given_why.ensures at none)

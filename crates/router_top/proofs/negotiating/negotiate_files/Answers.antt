@@ -1,4 +1,7 @@
 use Rattle.std.proofs.Common.{inl, inr, refl}
+use Rattle.fpga_problem.specs.Sources.{IsStopped}
+use Rattle.router_words.specs.Job.{global_said}
+use Rattle.router_top.proofs.StoppedLaws.{lacking-unstopped}
 use Rattle.router_top.proofs.negotiating.negotiate_files.Goals as goal
 
 pub returns-in-Err-clause-leaves : goal.returns-in-Err-clause-leaves
@@ -7,4 +10,11 @@ returns-in-Err-clause-leaves g c =
 
 pub returns-in-Ok-clause-leaves : goal.returns-in-Ok-clause-leaves
 returns-in-Ok-clause-leaves g c =
-    inr (c.in-Ok.begun.placed, c.in-Ok.ensures.has, c.seek_route.ensures)
+    inr (c.in-Ok.begun.placed, c.in-Ok.ensures.has, c.seek_route.ensures.leaves)
+
+pub returns-in-Err-clause-stopped : goal.returns-in-Err-clause-stopped
+returns-in-Err-clause-stopped g c stopped =
+    absurd (lacking-unstopped
+    (IsStopped (g.D.Desk.state c.args.desk.now) (g.D.Desk.state c.read_begun.new.desk))
+    (g.D.Desk.state c.args.desk.now).files (global_said c.args.job.now) c.in-Err.stop
+    c.in-Err.ensures.lacks stopped)

@@ -43,3 +43,13 @@ returns-in-Err-read_route_file-clause-quiet g c told =
     c.in-Err-read_route_file.ensures.reads.quiet (λ fails. told (desk-fault (Problem RouteFile)
     c.in-Err-read_route_file.fault c.unread_outcome-in-Err-read_route_file.result
     c.unread_outcome-in-Err-read_route_file.ensures fails)) ∙ c.in-Ok.ensures.quiet (λ e. e)
+
+pub returns-in-Ok-read_route_file-clause-has : goal.returns-in-Ok-read_route_file-clause-has
+returns-in-Ok-read_route_file-clause-has g c = record {
+  poses = c.in-Ok.ensures.poses;
+  sound = c.in-Ok.ensures.sound;
+  start = rw c.in-Some.is (
+    c.in-Ok-read_route_file.start,
+    rw c.in-Ok.ensures.files at c.in-Ok-read_route_file.ensures.reads.answers,
+  );
+}

@@ -3,7 +3,7 @@ use Rattle.router_top.proofs.RaisedLaws.{reason-next}
 use Rattle.router_top.proofs.raising.raise.Goals as goal
 
 pub loop-width-preserved : goal.loop-width-preserved
-loop-width-preserved c = (
+loop-width-preserved g c = (
   reason-next c.args.placed.now c.args.cut c.loop-width.width c.in-Some.found
       c.loop-width.auto.width (rw c.in-Some.is at c.in_ok-found.ensures),
   refl,

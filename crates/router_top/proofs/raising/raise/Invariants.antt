@@ -4,4 +4,4 @@ use Rattle.router_top.specs.Raised.{IsRaised}
 use Rattle.router_top.proofs.raising.raise.Given as goal
 
 abbrev pub invariant-loop-width : goal.invariant-loop-width
-invariant-loop-width l = IsRaised l.placed l.cut l.raised × (l.raised.tracks ≡ l.width)
+invariant-loop-width g l = IsRaised l.placed l.cut l.raised × (l.raised.tracks ≡ l.width)

@@ -3,7 +3,7 @@ use Rattle.std.proofs.lemmas.Option.{IfSome_then}
 use Rattle.router_words.specs.Word.{words_of}
 use Rattle.router_top.proofs.PosedLaws.{lacks-none}
 use Rattle.router_top.proofs.ReasonLaws.{others-lack}
-use Rattle.router_top.proofs.StoppedLaws.{none-stopped, not-open, refused-stopped, stopped-there}
+use Rattle.router_top.proofs.StoppedLaws.{none-early, refused-stopped, stopped-there}
 use Rattle.router_top.proofs.running.work.Goals as goal
 
 pub returns-in-Ok-Route-clause-leaves : goal.returns-in-Ok-Route-clause-leaves
@@ -188,47 +188,48 @@ returns-in-Ok-Trial-clause-stopped g c stopped =
 pub returns-in-Ok-Encode-clause-stopped : goal.returns-in-Ok-Encode-clause-stopped
 returns-in-Ok-Encode-clause-stopped g c stopped =
     let asked = rw c.in-Ok-Encode.field-0-is at c.in-Ok-Encode.ensures.answers in
-    absurd (none-stopped (words_of c.args.words.now) _ _ asked refl stopped)
+    absurd (none-early _ (stopped-there (words_of c.args.words.now) _ _ asked stopped))
 
 pub returns-in-Ok-Decode-clause-stopped : goal.returns-in-Ok-Decode-clause-stopped
 returns-in-Ok-Decode-clause-stopped g c stopped =
     let asked = rw c.in-Ok-Decode.field-0-is at c.in-Ok-Decode.ensures.answers in
-    absurd (none-stopped (words_of c.args.words.now) _ _ asked refl stopped)
+    absurd (none-early _ (stopped-there (words_of c.args.words.now) _ _ asked stopped))
 
 pub returns-in-Ok-Check-clause-stopped : goal.returns-in-Ok-Check-clause-stopped
 returns-in-Ok-Check-clause-stopped g c stopped =
     let asked = rw c.in-Ok-Check.field-0-is at c.in-Ok-Check.ensures.answers in
-    absurd (none-stopped (words_of c.args.words.now) _ _ asked refl stopped)
+    absurd (none-early _ (stopped-there (words_of c.args.words.now) _ _ asked stopped))
 
 pub returns-in-Ok-Verify-clause-stopped : goal.returns-in-Ok-Verify-clause-stopped
 returns-in-Ok-Verify-clause-stopped g c stopped =
     let asked = rw c.in-Ok-Verify.field-0-is at c.in-Ok-Verify.ensures.answers in
-    absurd (none-stopped (words_of c.args.words.now) _ _ asked refl stopped)
+    absurd (none-early _ (stopped-there (words_of c.args.words.now) _ _ asked stopped))
 
 pub returns-in-Ok-Judge-clause-stopped : goal.returns-in-Ok-Judge-clause-stopped
 returns-in-Ok-Judge-clause-stopped g c stopped =
     let asked = rw c.in-Ok-Judge.field-0-is at c.in-Ok-Judge.ensures.answers in
-    absurd (none-stopped (words_of c.args.words.now) _ _ asked refl stopped)
+    absurd (none-early _ (stopped-there (words_of c.args.words.now) _ _ asked stopped))
 
 pub returns-in-Ok-Bound-clause-stopped : goal.returns-in-Ok-Bound-clause-stopped
 returns-in-Ok-Bound-clause-stopped g c stopped =
     let asked = rw c.in-Ok-Bound.field-0-is at c.in-Ok-Bound.ensures.answers in
-    absurd (none-stopped (words_of c.args.words.now) _ _ asked refl stopped)
+    absurd (none-early _ (stopped-there (words_of c.args.words.now) _ _ asked stopped))
 
 pub returns-in-Ok-Global-clause-stopped : goal.returns-in-Ok-Global-clause-stopped
 returns-in-Ok-Global-clause-stopped g c stopped =
     let asked = rw c.in-Ok-Global.field-0-is at c.in-Ok-Global.ensures.answers in
-    absurd (none-stopped (words_of c.args.words.now) _ _ asked refl stopped)
+    c.negotiate_files.ensures.stopped (rw c.without_problem-in-Ok-Global.ensures
+    at (stopped-there (words_of c.args.words.now) _ _ asked stopped))
 
 pub returns-in-Ok-Least-clause-stopped : goal.returns-in-Ok-Least-clause-stopped
 returns-in-Ok-Least-clause-stopped g c stopped =
     let asked = rw c.in-Ok-Least.field-0-is at c.in-Ok-Least.ensures.answers in
-    absurd (none-stopped (words_of c.args.words.now) _ _ asked refl stopped)
+    c.narrow_files.ensures.stopped (stopped-there (words_of c.args.words.now) _ _ asked stopped)
 
 pub returns-in-Ok-Gen-clause-stopped : goal.returns-in-Ok-Gen-clause-stopped
 returns-in-Ok-Gen-clause-stopped g c stopped =
     let asked = rw c.in-Ok-Gen.field-0-is at c.in-Ok-Gen.ensures.answers in
-    absurd (none-stopped (words_of c.args.words.now) _ _ asked refl stopped)
+    absurd (none-early _ (stopped-there (words_of c.args.words.now) _ _ asked stopped))
 
 pub returns-in-Ok-Route-clause-reason : goal.returns-in-Ok-Route-clause-reason
 returns-in-Ok-Route-clause-reason g c = rw c.work_on.ensures.unraised tt

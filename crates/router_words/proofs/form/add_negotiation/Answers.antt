@@ -8,5 +8,7 @@ returns c =
     let width = c.in_ok-command.ensures ∙ ap with_width_and_prefix c.in_ok-placed.ensures in
     let free = c.in_ok-command-2.ensures ∙ ap (with_flag (codes "free")) width in
     let from = c.in_ok-command-3.ensures ∙ ap (with_option (codes "from")) free in
-    IfOk-weaker c.add_option-2.result _ _ (λ r h. h ∙ ap (with_option (codes "rounds")) from)
-    c.add_option-2.ensures
+    let rounds = c.in_ok-command-4.ensures ∙ ap (with_option (codes "rounds")) from in
+    let seconds = c.in_ok-command-5.ensures ∙ ap (with_option (codes "seconds")) rounds in
+    IfOk-weaker c.add_flag-2.result _ _ (λ r h. h ∙ ap (with_flag (codes "stats")) seconds)
+    c.add_flag-2.ensures

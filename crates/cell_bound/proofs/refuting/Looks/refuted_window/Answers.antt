@@ -12,7 +12,7 @@ use Rattle.cell_bound.proofs.RefutedLemmas.{if-there, is-refuted}
 use Rattle.cell_bound.proofs.refuting.Looks.refuted_window.Goals as goal
 
 pub returns : goal.returns
-returns c =
+returns g c =
     let placed = placed_netlist c.args.self.now.arch.now c.args.self.now.netlist.now
     c.args.self.now.placement.now in
     let range = c.args.range in

@@ -3,4 +3,4 @@ use Rattle.route_negotiate.proofs.rounds.Search.run.Given as goal
 
 -- there are no more rounds left than there may be
 abbrev pub invariant-loop-turn : goal.invariant-loop-turn
-invariant-loop-turn l = l.left ≤ l.most
+invariant-loop-turn g l = l.left ≤ l.most

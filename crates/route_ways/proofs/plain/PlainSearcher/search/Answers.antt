@@ -7,7 +7,7 @@ pub returns-in-Ok-Refuted-clause-ended : goal.returns-in-Ok-Refuted-clause-ended
 returns-in-Ok-Refuted-clause-ended g c =
     let way = c.args.self.now in
     let formula = c.args.formula.now.cnf in
-    let log = c.solve_limited.new.log.steps in
+    let log = c.solve_told.new.log.steps in
     plainly-refuted way formula log c.requires.few c.requires.few_vars c.requires.serves
     (subst (HasSearched way formula log) c.in-Ok-Refuted.field-0-is c.in-Ok-Refuted.ensures.searched)
     c.new-lead.result.items c.new-lead.ensures.items
@@ -16,7 +16,7 @@ pub returns-in-Ok-Spent-clause-ended : goal.returns-in-Ok-Spent-clause-ended
 returns-in-Ok-Spent-clause-ended g c =
     let way = c.args.self.now in
     let formula = c.args.formula.now.cnf in
-    let log = c.solve_limited.new.log.steps in
+    let log = c.solve_told.new.log.steps in
     plainly-open way formula log c.requires.few c.requires.few_vars c.requires.serves
     (subst (HasSearched way formula log) c.in-Ok-Spent.field-0-is c.in-Ok-Spent.ensures.searched)
 
@@ -27,7 +27,7 @@ pub returns-in-Ok-Stopped-clause-ended : goal.returns-in-Ok-Stopped-clause-ended
 returns-in-Ok-Stopped-clause-ended g c =
     let way = c.args.self.now in
     let formula = c.args.formula.now.cnf in
-    let log = c.solve_limited.new.log.steps in (
+    let log = c.solve_told.new.log.steps in (
       plainly-stopped way formula log c.requires.few c.requires.few_vars c.requires.serves
           (subst (HasSearched way formula log) c.in-Ok-Stopped.field-0-is
           c.in-Ok-Stopped.ensures.searched)
