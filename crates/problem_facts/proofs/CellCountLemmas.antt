@@ -16,7 +16,7 @@ use Rattle.fpga_types.specs.declared.problem.Slot.{Slot}
 use Rattle.route_encode.specs.Encoding.{below}
 use Rattle.route_encode.proofs.CompeteLemmas.{differs}
 use Rattle.route_encode.proofs.RivalLemmas.{range-append}
-use Rattle.problem_facts.specs.CellCounts.{AreCounted, IsFirstGreatest, slots_before}
+use Rattle.problem_facts.specs.CellCounts.{AreCounted, IsFirstGreatest}
 use Rattle.problem_facts.specs.Fullest.{has_most, slots_in}
 
 pub cases-eq : (a b : ℕ) → (a ≡ b) ⊎ (a ≢ b)

@@ -105,11 +105,8 @@ fn crowd_among(
         (below (cell_count problem.now.route.grid)) ≡ Some fullest }
     ensures { IfOk result (λ crowd. IsCrowd problem.now crowd.items) }
 {
-    let rooted = TreeSlots {
-        grid: problem.route().grid,
-        slots: problem.slots(),
-        roots: trees.roots(),
-    };
+    let _given = problem.route();
+    let rooted = TreeSlots::of_problem(problem, trees);
     let crowd = crowd_of(alloc, &rooted, fullest)?;
     Ok(crowd)
 }

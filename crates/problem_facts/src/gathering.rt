@@ -1,13 +1,15 @@
 //! The trees that are gathered from a cell on.
 ghost use Rattle.std.specs.Prelude.{◌≡◌, ◌≤◌, ◌<◌, ◌++◌, All, IfOk, [], false, filter, length, map, slice_index};
 ghost use Rattle.fpga_types.specs.CellNumbers.{cell_count, number_of_cell};
-ghost use Rattle.fpga_types.specs.Slots.{slot_at};
-ghost use Rattle.problem_facts.specs.Crowd.{gathered};
+ghost use Rattle.fpga_types.specs.Slots.{slot_at, slots};
+ghost use Rattle.problem_facts.specs.Crowd.{gathered, tree_of};
 ghost use Rattle.problem_facts.specs.Gathering.{AreHeld, AreMarked, AreWhole, is_kept};
 ghost use Rattle.problem_facts.specs.Trees.{AreRooted, meet};
 
 use crate::limits::CROWD_LIMIT;
+use crate::trees::Trees;
 use arrayvec::ArrayVec;
+use fpga_bounds::PlacedProblem;
 use fpga_types::{Grid, Slot, cell_number};
 
 /// The slots of an array, with the slot that stands for the tree of each.
@@ -20,6 +22,20 @@ pub(crate) struct TreeSlots<'a> {
 }
 
 impl<'a> TreeSlots<'a> {
+    /// The slots of a problem, of which these are the trees.
+    pub fn of_problem(problem: &'a PlacedProblem, trees: &'a Trees) -> TreeSlots<'a>
+        requires trees { trees.now.roots ≡ tree_of problem.now }
+        ensures grid { result.grid ≡ problem.now.route.grid }
+        ensures slots { result.slots.now ≡ slots problem.now.route }
+        ensures roots { result.roots.now ≡ tree_of problem.now }
+    {
+        TreeSlots {
+            grid: problem.route().grid,
+            slots: problem.slots(),
+            roots: trees.roots(),
+        }
+    }
+
     /// The number of the slot's cell.
     pub fn cell(&self, slot: u32) -> usize
         requires { slot < length self.now.slots.now }

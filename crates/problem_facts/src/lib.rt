@@ -12,6 +12,7 @@ mod full;
 mod fullest;
 mod gathering;
 mod grouped;
+mod grouped_slots;
 mod laws;
 mod limits;
 mod met_trees;
@@ -24,6 +25,7 @@ pub use exchange::{group_count, is_exchangeable, track_group, why_not_exchangeab
 pub use facts::Facts;
 pub use full::{Asymmetry, is_symmetric, narrow_boxes, why_not_symmetric};
 pub use fullest::{cells_of, fullest_cell};
+pub use grouped_slots::GroupedSlots;
 pub use laws::{
     cells_have_different_tracks, crowds_have_different_tracks, trackless_is_unroutable,
     trees_have_one_track,

@@ -2,9 +2,7 @@
 use Rattle.std.proofs.Common.{◌≡◌, ℕ, Bool, true, false, Option, Some, None, List, [], refl, sym, ap, ◌∙◌}
 use Rattle.std.specs.Prelude.{◌&&◌, ◌==◌, length, not}
 use Rattle.std.specs.BTreeSet.{BTreeSet}
-use Rattle.std.specs.List.{list_all}
 use Rattle.std.specs.Option.{option_map_or}
-use Rattle.std.proofs.Math.Bool.{and-false}
 use Rattle.fpga_bounds.specs.ElemContext.{with_full}
 use Rattle.fpga_bounds.specs.NetEnds.{NamedNet}
 use Rattle.fpga_bounds.specs.NetFit.{head_line}
@@ -13,15 +11,13 @@ use Rattle.fpga_bounds.specs.ProblemContext.{context_by}
 use Rattle.fpga_bounds.specs.declared.keys.ElemKey.{ElemKey}
 use Rattle.fpga_bounds.proofs.HeadLemmas.{not-known}
 use Rattle.fpga_bounds.proofs.LineFaultLemmas.{at-hand}
-use Rattle.fpga_bounds.proofs.NameLemmas.{unnamed}
 use Rattle.fpga_graph.specs.GraphOf.{GraphOf}
 use Rattle.fpga_text.specs.Codes.{first_code}
 use Rattle.fpga_text.specs.declared.fault.TextFault.TheVariants.{Bad}
 use Rattle.fpga_types.specs.Fit.{LineContext, RouteLine, context_of, line_number}
-use Rattle.fpga_types.specs.Fits.{ProblemContext, has_net, has_sink, is_known, lacks_sink}
+use Rattle.fpga_types.specs.Fits.{ProblemContext, has_net, is_known, lacks_sink}
 use Rattle.fpga_types.specs.Problem.{RoutingProblem}
-use Rattle.fpga_types.specs.Terminals.{driver_named, sinks_of}
-use Rattle.fpga_types.specs.declared.netlist.Net.{Net}
+use Rattle.fpga_types.specs.Terminals.{driver_named}
 use Rattle.fpga_types.specs.declared.problem.Terminal.{Terminal}
 use Rattle.fpga_types.specs.declared.route.Elem.{Elem}
 use Rattle.fpga_types.specs.declared.route.RouteNet.{RouteNet}
@@ -30,9 +26,10 @@ use Rattle.route_judge.specs.Rules.{IsLineOf}
 use Rattle.route_judge.specs.declared.line.ElemLine.{ElemLine}
 use Rattle.route_verify.specs.Heads.{head_cause}
 use Rattle.route_verify.specs.Judged.{graph_of}
-use Rattle.route_verify.specs.Lines.{JudgedLine, has_wire, is_wire_of, without_count}
+use Rattle.route_verify.specs.Lines.{has_wire, is_wire_of, without_count}
 use Rattle.route_verify.specs.Rules.{judged_at}
 use Rattle.route_verify.specs.Wiring.{wire_on}
+use Rattle.route_verify.proofs.RuleLemmas.{bare_line, unnamed-whole}
 
 module _ (at : ElemLine) (seen : BTreeSet ElemKey) (line : RouteLine) (is : IsLineOf at seen line)
   where
@@ -60,31 +57,6 @@ module _ (at : ElemLine) (seen : BTreeSet ElemKey) (line : RouteLine) (is : IsLi
               (wire_on (sym is.route.elem k)) false)) i;
           stray = false;
         })
-
--- what the causes look at, of a Net line
-abbrev pub bare_line : Option Terminal → (known repeated global last lacking : Bool) → JudgedLine
-bare_line driver known repeated global last lacking = record {
-  fit = record {
-    route = record {
-      elem = None;
-      previous = None;
-      again = false;
-      taken = false;
-      full = false;
-      last = last;
-      global = global;
-    };
-    known = known;
-    repeated = repeated;
-    driver = driver;
-    ends = false;
-    takes_in = false;
-    lacking = lacking;
-  };
-  wire_again = false;
-  wire_taken = false;
-  stray = false;
-}
 
 -- the cause against a Net line
 pub by-head : (strict : Bool) (g : GraphOf) (line : ℕ) (driver : Option Terminal)
@@ -120,11 +92,7 @@ pub head-unknown : (strict : Bool) (width : ℕ) (p : RoutingProblem) (earlier :
     (net : RouteNet) → number_named p.netlist.nets net.name ≡ None
     → placed_line_cause strict width p (head_line earlier net) ≡ Some (Bad net.line 807)
 head-unknown strict width p earlier net none =
-    let lacks : lacks_sink p (head_line earlier net) ≡ false =
-    ap (λ (named : Option Net). not net.global && length net.elems == 0
-    && not (list_all (has_sink []) (option_map_or (sinks_of p) named [])))
-    (unnamed p.netlist.nets net.name none)
-    ∙ and-false (not net.global && length net.elems == 0) in
     head-is strict width p earlier net
     ∙ (λ i. head_cause net.line (not-known p.netlist.nets net.name net.global none i)
-    (has_net earlier net.name) (not net.global && length net.elems == 0) (lacks i))
+    (has_net earlier net.name) (not net.global && length net.elems == 0)
+    (unnamed-whole p earlier net none i))

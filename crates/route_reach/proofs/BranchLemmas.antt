@@ -46,6 +46,15 @@ ends-same lines e other =
     one true h = absurd (false≢true (sym h))
     one false h = refl
 
+-- lines without a last one are none
+pub no-last : (xs : List Elem) → last_or None xs ≡ None → xs ≡ []
+no-last [] h = refl
+no-last (x ∷ xs) h = absurd (later x xs h)
+  where
+    later : (y : Elem) (ys : List Elem) → last_or (Some y) ys ≡ None → ⊥
+    later y [] g = cc
+    later y (z ∷ zs) g = later z zs g
+
 -- where a branch may begin behind a line, that is a SINK
 pub open-sink : (lines : List Elem) → is_open lines ≡ true → 0 < length lines
     → (a : Elem) × (last_or None lines ≡ Some a) × (is_sink a.kind ≡ true)
@@ -54,15 +63,9 @@ open-sink lines free some = go (last_or None lines) refl free
     go : (o : Option Elem) → last_or None lines ≡ o
         → option_map_or (λ (e : Elem). is_sink e.kind) o true ≡ true
         → (a : Elem) × (last_or None lines ≡ Some a) × (is_sink a.kind ≡ true)
-    go None is h = absurd (none lines some is)
-      where
-        none : (xs : List Elem) → 0 < length xs → last_or None xs ≡ None → ⊥
-        none [] low e = omega (arith, low)
-        none (x ∷ xs) low e = later x xs e
-          where
-            later : (y : Elem) (ys : List Elem) → last_or (Some y) ys ≡ None → ⊥
-            later y [] g = cc
-            later y (z ∷ zs) g = later z zs g
+    go None is h =
+        absurd (let empty : length lines ≡ 0 = ap length (no-last lines is) in
+        omega (arith, some, empty))
     go (Some a) is h = (a, is, h)
 
 module _ (f : NetFrame) (is : IsFrame f) where

@@ -3,7 +3,6 @@
 use Rattle.std.proofs.Common.{◌≡◌, ◌≢◌, ℕ, zero, suc, ◌+◌, ◌<◌, ◌≤◌, Bool, true, false, Some, List, [], ◌∷◌, ◌++◌, length, take, inl, inr, refl, sym, ap, subst, ◌∙◌, arith, length-append}
 use Rattle.std.specs.Prelude.{◌&&◌, ◌==◌, All, Contains, IsTrue, not, slice_get}
 use Rattle.std.proofs.Math.Nat.{mod-lt}
-use Rattle.std.proofs.lemmas.Bool.{cases_lt}
 use Rattle.std.proofs.lemmas.Bool.Decides.{Decides-eqb}
 use Rattle.std.proofs.lemmas.Option.{slice_get_within}
 use Rattle.list_laws.proofs.Members.{In, In-contains, In-list_any, all-from_In, contains-In}
@@ -11,7 +10,6 @@ use Rattle.list_laws.proofs.Places.{In-place, get-cases, get-take, get-taken, so
 use Rattle.fpga_bounds.proofs.LineLemmas.{elem_line}
 use Rattle.fpga_types.specs.Fits.{Fits}
 use Rattle.fpga_types.specs.Given.{IsGiven}
-use Rattle.fpga_types.specs.Slots.{slot_at}
 use Rattle.fpga_types.specs.declared.grid.Wire.{Wire}
 use Rattle.fpga_types.specs.declared.limits.TheConstants.{WIDTH_LIMIT}
 use Rattle.fpga_types.specs.declared.problem.Slot.{Slot}
@@ -19,7 +17,6 @@ use Rattle.fpga_types.specs.declared.route.Elem.{Elem}
 use Rattle.fpga_types.specs.declared.route.RouteNet.{RouteNet}
 use Rattle.fpga_types.specs.declared.route.RouteText.{RouteText}
 use Rattle.route_encode.specs.Said.{says}
-use Rattle.route_encode.proofs.CompeteLemmas.{competing, pair-in}
 use Rattle.route_reach.specs.Decoding.{AreDecoded, IsDecodedNet, IsWireOfNet}
 use Rattle.route_reach.specs.Encoding.{wire_at}
 use Rattle.route_reach.specs.Good.{IsReachRoute, is_labelled, is_pin_among}
@@ -32,6 +29,7 @@ use Rattle.route_reach.proofs.ApartLemmas.{pins-apart}
 use Rattle.route_reach.proofs.FoundLemmas.{on-line}
 use Rattle.route_reach.proofs.GoodLemmas.{counts}
 use Rattle.route_reach.proofs.Heeds.{Heeds}
+use Rattle.route_reach.proofs.ModelLemmas.{IsSaid, apart}
 use Rattle.route_verify.specs.Lines.{has_wire, is_on_wire, is_wire_of}
 use Rattle.route_verify.specs.Reach.{reach_line}
 use Rattle.route_verify.specs.Wiring.{elem_wire}
@@ -47,37 +45,22 @@ IsQuietAt m earlier other i e =
     IsQuiet (graph_in m) m.reach (reach_line m.problem (elem_line earlier other i e))
 
 module _ (m : ModelOf) (h : Heeds (frame_in m) m.problem.route m.values) where
-  abbrev all : List Slot
-  all = slots_in_model m
-
-  abbrev net_at : ℕ → ℕ
-  net_at s = (slot_at all s).net
-
-  shared : (a b t : ℕ) → a < b → b < length all → t < m.width → net_at a ≢ net_at b
-      → (slot_at all a).cell ≡ (slot_at all b).cell → says m.values m.width a t ≡ true
-      → says m.values m.width b t ≡ true → ⊥
-  shared a b t low high inside nets cells says_a says_b =
-      h.apart (a, b) t
-      (pair-in all a b low high (competing (slot_at all a) (slot_at all b) nets cells)) inside
-      says_a says_b
-
   -- no wire is used by two nets
   nets-apart : (a b : ℕ) (w : Wire) → a ≢ b → IsWireOfNet m a w → IsWireOfNet m b w → ⊥
-  nets-apart a b w differ u v =
-      let cells : (slot_at all u.slot).cell ≡ (slot_at all v.slot).cell =
-      ap (λ (x : Wire). x.cell) (u.is ∙ sym v.is) in
-      let tracks : u.track ≡ v.track = ap (λ (x : Wire). x.track) (u.is ∙ sym v.is) in
-      let nets : net_at u.slot ≢ net_at v.slot = λ e. differ (sym u.own ∙ e ∙ v.own) in
-      let used : says m.values m.width v.slot u.track ≡ true =
-      subst (λ (t : ℕ). says m.values m.width v.slot t ≡ true) (sym tracks) v.used in
-      elim (cases_lt u.slot v.slot) [
-        | inl below ↦ shared u.slot v.slot u.track below v.low u.inside nets cells u.used used
-        | inr not_below ↦ elim (cases_lt v.slot u.slot) [
-          | inl above ↦ shared v.slot u.slot u.track above u.low u.inside (λ e. nets (sym e))
-              (sym cells) used u.used
-          | inr not_above ↦ nets (ap net_at (let e : u.slot ≡ v.slot = omega arith in e))
-        ]
-      ]
+  nets-apart a b w differ u v = apart m.width m.reach m.problem m.values h a b w differ
+      (said a w u) (said b w v)
+    where
+      said : (n : ℕ) (w : Wire) → IsWireOfNet m n w
+          → IsSaid m.width m.reach m.problem m.values h n w
+      said n w u = record {
+        slot = u.slot;
+        track = u.track;
+        low = u.low;
+        net = u.own;
+        inside = u.inside;
+        says = u.used;
+        is = u.is;
+      }
 
   module _ (fits : Fits m.problem) (nets : List RouteNet)
       (decoded : AreDecoded m (length m.problem.route.nets) nets) where

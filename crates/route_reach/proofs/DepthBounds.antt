@@ -32,8 +32,8 @@ use Rattle.fpga_types.proofs.MeetingLemmas.{both_true}
 use Rattle.route_reach.specs.TraceDepth.{greatest, net_depths, trace_depth}
 use Rattle.route_reach.proofs.DeepLemmas.{take-none}
 use Rattle.route_reach.proofs.ElemLemmas.{channel-wire, on-wire, wire-equal}
-use Rattle.route_reach.proofs.FoundLemmas.{channel-others}
 use Rattle.route_reach.proofs.GreatestLemmas.{greatest-net}
+use Rattle.route_reach.proofs.LineFacts.{channel-kinds}
 use Rattle.route_verify.specs.Depths.{DeepLine, deep_line, deep_lines, depth_after, depth_behind}
 use Rattle.route_verify.proofs.DepthLemmas.{AreBelow, deep-are, deep-push, found-below, last-In, one-more}
 use Rattle.route_verify.proofs.FittingLine.{fitting}
@@ -187,7 +187,7 @@ module _ (p : RoutingProblem) (sound : IsSound p.route) (fits : Fits p) (n : ℕ
         let fit = fitting p (elem_line earlier net k e) (Fits-line p fits
         (elem_line earlier net k e) (elem-among p.route.nets n net k e here at)) in
         let new : list_any (same_elem e) (take k net.elems) ≡ false =
-        sym ((λ i. not ((channel-others e.kind channel).1 i)
+        sym ((λ i. not ((channel-kinds e.kind channel).3 i)
         && not (option_map_or (λ (a : Elem). is_sink a.kind) (before i) false)
         && list_any (same_elem e) (take k net.elems))
         ∙ (λ i. not (sink i) && list_any (same_elem e) (take k net.elems))) ∙ fit.new in

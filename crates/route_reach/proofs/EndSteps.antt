@@ -23,7 +23,7 @@ use Rattle.route_reach.specs.declared.printed.Printed.{Printed}
 use Rattle.route_reach.specs.declared.tree.Reached.{Reached}
 use Rattle.route_reach.proofs.BranchLemmas.{ends-same, opins-same, plain-step}
 use Rattle.route_reach.proofs.FrameLemmas.{wire-low}
-use Rattle.route_reach.proofs.LineFacts.{line-channel, line-wire, no-wire}
+use Rattle.route_reach.proofs.LineFacts.{line-channel, line-wire, no-wire, sink-kinds}
 use Rattle.route_reach.proofs.NetSinks.{before-sink}
 use Rattle.route_reach.proofs.OwnLines.{in-order, ipin-quiet, sink-quiet}
 use Rattle.route_reach.proofs.PrintingLemmas.{last-deep, printed-more}
@@ -45,11 +45,6 @@ pub ipin-kinds : (k : ElemKind) → is_ipin k ≡ true
     → (is_sink k ≡ false) × ((is_ipin k || is_sink k) ≡ true)
 ipin-kinds Ipin h = (refl, refl)
 ipin-kinds k h = absurd (false≢true h)
-
-sink-kinds : (k : ElemKind) → is_sink k ≡ true
-    → (is_ipin k ≡ false) × ((is_ipin k || is_sink k) ≡ true) × (is_source k ≡ false)
-sink-kinds Sink h = (refl, refl, refl)
-sink-kinds k h = absurd (false≢true h)
 
 -- behind an IPIN only a SINK may stand
 not-ipin : (k m : ElemKind) → may_follow k m ≡ true → is_sink m ≡ false → is_ipin k ≡ false

@@ -52,28 +52,18 @@ module _ (all : List Slot) (n : ℕ) (a b : Elem) where
   pair-counts : (j k : ElemKind) → may_follow j k ≡ true
       → count (sink_pin (first j, second k)) + count (ipin_of (second k))
       ≤ count (pin_step_beside all n (first j, second k)) + count (ipin_of (first j))
-  pair-counts Source k h = none k h
-    where
-      none : (k : ElemKind) → may_follow Source k ≡ true
-          → count (sink_pin (first Source, second k)) + count (ipin_of (second k))
-          ≤ count (pin_step_beside all n (first Source, second k)) + count (ipin_of (first Source))
-      none Opin g = omega arith
-      none Source g = absurd (false≢true g)
-      none ChanX g = absurd (false≢true g)
-      none ChanY g = absurd (false≢true g)
-      none Ipin g = absurd (false≢true g)
-      none Sink g = absurd (false≢true g)
-  pair-counts Opin k h = none k h
-    where
-      none : (k : ElemKind) → may_follow Opin k ≡ true
-          → count (sink_pin (first Opin, second k)) + count (ipin_of (second k))
-          ≤ count (pin_step_beside all n (first Opin, second k)) + count (ipin_of (first Opin))
-      none ChanX g = omega arith
-      none ChanY g = omega arith
-      none Source g = absurd (false≢true g)
-      none Opin g = absurd (false≢true g)
-      none Ipin g = absurd (false≢true g)
-      none Sink g = absurd (false≢true g)
+  pair-counts Source Opin h = omega arith
+  pair-counts Source Source h = absurd (false≢true h)
+  pair-counts Source ChanX h = absurd (false≢true h)
+  pair-counts Source ChanY h = absurd (false≢true h)
+  pair-counts Source Ipin h = absurd (false≢true h)
+  pair-counts Source Sink h = absurd (false≢true h)
+  pair-counts Opin ChanX h = omega arith
+  pair-counts Opin ChanY h = omega arith
+  pair-counts Opin Source h = absurd (false≢true h)
+  pair-counts Opin Opin h = absurd (false≢true h)
+  pair-counts Opin Ipin h = absurd (false≢true h)
+  pair-counts Opin Sink h = absurd (false≢true h)
   pair-counts Ipin Sink h = omega arith
   pair-counts Ipin Source h = absurd (false≢true h)
   pair-counts Ipin Opin h = absurd (false≢true h)

@@ -12,7 +12,7 @@ use Rattle.fpga_graph.specs.Wires.{Reaches}
 use Rattle.fpga_types.specs.Fabric.{same_cell}
 use Rattle.fpga_types.specs.Fit.{RouteLine, is_branch, is_out_of_order, same_elem}
 use Rattle.fpga_types.specs.Fits.{is_other_pin, is_other_sink, is_other_source, is_repeated, is_unknown}
-use Rattle.fpga_types.specs.Kinds.{is_channel, is_ipin, is_opin, is_pin, is_sink, is_source, may_follow, same_label}
+use Rattle.fpga_types.specs.Kinds.{is_channel, is_opin, is_pin, is_sink, is_source, may_follow, same_label}
 use Rattle.fpga_types.specs.Problem.{RoutingProblem}
 use Rattle.fpga_types.specs.Slots.{elem_pin}
 use Rattle.fpga_types.specs.Sound.{IsSound, IsSoundElem, IsSoundNet}
@@ -32,6 +32,7 @@ use Rattle.route_reach.specs.Reach.{IsJoint}
 use Rattle.route_reach.specs.Trees.{wires_of}
 use Rattle.route_reach.proofs.DeepLemmas.{Before, IsWalk, by_channel, by_opin, by_sink}
 use Rattle.route_reach.proofs.ElemLemmas.{In-first_seen, channel-wire, labelled-pin, on-wire, pin-equal, tracked-equal, wire-equal}
+use Rattle.route_reach.proofs.LineFacts.{channel-kinds}
 use Rattle.route_reach.proofs.QuietLines.{IsQuiet, quiet-lines}
 use Rattle.route_reach.proofs.Wires.{joins-is, reaches-is}
 use Rattle.route_verify.specs.Depths.{same_tracked}
@@ -46,7 +47,9 @@ use Rattle.route_verify.proofs.EqualLines.{same_elem-is, same_label-is}
 pub record IsFitLine (g : GraphOf) (at : JudgedLine) : Type 0 where
   pub order : is_out_of_order at.fit.route ≡ false
   pub loose : branches_loose at ≡ false
+  pub other : is_other_again at.fit.route ≡ false
   pub pin : is_other_pin (device_in g) at.fit ≡ false
+  pub again : is_sink_again at.fit.route ≡ false
   pub sink : is_other_sink at.fit ≡ false
   pub source : is_other_source at.fit ≡ false
 
@@ -70,7 +73,15 @@ fit-line g at h =
     let p4 = or_parts (a || b || c || d) e p5.0 in
     let p3 = or_parts (a || b || c) d p4.0 in
     let p2 = or_parts (a || b) c p3.0 in
-    record { order = p9.1; loose = p7.1; pin = p5.1; sink = p3.1; source = p2.1 }
+    record {
+      order = p9.1;
+      loose = p7.1;
+      other = p6.1;
+      pin = p5.1;
+      again = p4.1;
+      sink = p3.1;
+      source = p2.1;
+    }
 
 -- what may stand before a channel line
 pub before-channel : (k m : ElemKind) → may_follow k m ≡ true → is_channel m ≡ true
@@ -90,15 +101,14 @@ pub channel-no_source : (k : ElemKind) → is_source k ≡ true → is_channel k
 channel-no_source Source h is = false≢true is
 channel-no_source k h is = false≢true h
 
-pub channel-others : (k : ElemKind) → is_channel k ≡ true → (is_ipin k ≡ false)
-    × (is_sink k ≡ false)
-channel-others ChanX h = (refl, refl)
-channel-others ChanY h = (refl, refl)
-channel-others k h = absurd (false≢true h)
-
 pub opin-is : (k : ElemKind) → is_opin k ≡ true → k ≡ Opin
 opin-is Opin h = refl
 opin-is k h = absurd (false≢true h)
+
+pub pin-other : (k : ElemKind) → is_pin k ≡ true → is_channel k ≡ false
+pin-other Opin is = refl
+pin-other Ipin is = refl
+pin-other k is = absurd (false≢true is)
 
 -- they are one wire
 pub same_wire-is : (u v : Wire) → same_wire u v ≡ true → u ≡ v
@@ -254,11 +264,6 @@ module _ (width reach : ℕ) (p : RoutingProblem) (sound : IsSound p.route) (fou
         go true i h = h
         go false i h = absurd (false≢true i)
 
-    pin-other : (k : ElemKind) → is_pin k ≡ true → is_channel k ≡ false
-    pin-other Opin is = refl
-    pin-other Ipin is = refl
-    pin-other k is = absurd (false≢true is)
-
     -- and has its pin
     pub pin-of-line : (k : ℕ) (e : Elem) → slice_get elems k ≡ Some e → is_pin e.kind ≡ true
         → (pin : PinAt) × (elem_pin e ≡ Some pin) × (line : Elem) × In net.elems line
@@ -292,12 +297,12 @@ module _ (width reach : ℕ) (p : RoutingProblem) (sound : IsSound p.route) (fou
         → list_any (same_tracked e) (take (suc j) elems) ≡ true
     branches j a e at_a at sink channel =
         let w = channel-wire e channel in
-        let kinds = channel-others e.kind channel in
+        let kinds = channel-kinds e.kind channel in
         let branch : is_branch (at_line (suc j) e).fit.route ≡ true =
         ap (λ (o : Option Elem). option_map_or (λ (b : Elem). is_sink b.kind) o false)
         (previous j a at_a) ∙ sink in
         let loose : not (is_again (at_line (suc j) e) e) ≡ false =
-        sym (λ i. not (kinds.0 i) && not (kinds.1 i) && branch i
+        sym (λ i. not (kinds.2 i) && not (kinds.3 i) && branch i
         && not (is_again (at_line (suc j) e) e)) ∙ (fits-at (suc j) e at).loose in
         let again = both_true (at_line (suc j) e).fit.route.again
         (not (is_channel e.kind) || (at_line (suc j) e).wire_again)

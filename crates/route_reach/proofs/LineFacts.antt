@@ -54,7 +54,7 @@ same_kind-itself ChanY = refl
 same_kind-itself Ipin = refl
 same_kind-itself Sink = refl
 
-same_label-itself : (label : Label) → same_label label label ≡ true
+pub same_label-itself : (label : Label) → same_label label label ≡ true
 same_label-itself Class = refl
 same_label-itself Pin = refl
 same_label-itself Pad = refl
@@ -92,6 +92,12 @@ ipin-is k is = absurd (false≢true is)
 pub sink-is : (k : ElemKind) → is_sink k ≡ true → k ≡ Sink
 sink-is Sink is = refl
 sink-is k is = absurd (false≢true is)
+
+-- a SINK is an end, and neither an IPIN nor a SOURCE
+pub sink-kinds : (k : ElemKind) → is_sink k ≡ true
+    → (is_ipin k ≡ false) × ((is_ipin k || is_sink k) ≡ true) × (is_source k ≡ false)
+sink-kinds Sink h = (refl, refl, refl)
+sink-kinds k h = absurd (false≢true h)
 
 -- what may stand behind a SINK, an OPIN and a channel
 pub sink-leads : (k m : ElemKind) → is_sink k ≡ true → is_channel m ≡ true → may_follow k m ≡ true

@@ -18,10 +18,11 @@ use Rattle.fpga_types.specs.declared.route.Elem.{Elem}
 use Rattle.fpga_types.specs.declared.route.ElemKind.{ElemKind}
 use Rattle.fpga_types.specs.declared.route.ElemKind.TheVariants.{Source, Opin, ChanX, ChanY, Ipin, Sink}
 use Rattle.fpga_types.specs.declared.route.Label.{Label}
-use Rattle.fpga_types.specs.declared.route.Label.TheVariants.{Class, Pin, Pad, Track}
+use Rattle.fpga_types.specs.declared.route.Label.TheVariants.{Class, Pin, Pad}
 use Rattle.fpga_types.proofs.MeetingLemmas.{both_true}
 use Rattle.fpga_bounds.proofs.StepFacts.{adjacent-there}
 use Rattle.route_reach.specs.Ends.{ipin_of, sink_pin}
+use Rattle.route_reach.proofs.LineFacts.{same_label-itself}
 use Rattle.route_verify.proofs.EqualLines.{AreEqual, same_label-is}
 
 -- ---- terminals
@@ -95,19 +96,13 @@ pub sinks-equal : (a b : Elem) → is_sink a.kind ≡ true → is_sink b.kind �
     → named_terminal a ≡ named_terminal b → same_elem a b ≡ true
 sinks-equal a b h g same = go a.kind b.kind h g
   where
-    label-itself : (l : Label) → same_label l l ≡ true
-    label-itself Class = refl
-    label-itself Pin = refl
-    label-itself Pad = refl
-    label-itself Track = refl
-
     place : (a.x == b.x && a.y == b.y && same_label a.label b.label) ≡ true
     place =
         let x : a.x ≡ b.x = ap (λ (t : Terminal). t.x) same in
         let y : a.y ≡ b.y = ap (λ (t : Terminal). t.y) same in
         let l : a.label ≡ b.label = ap (λ (t : Terminal). t.label) same in
         (λ i. eq-eqb a.x b.x x i && eq-eqb a.y b.y y i && same_label (l i) b.label)
-        ∙ label-itself b.label
+        ∙ same_label-itself b.label
 
     number : (a.number == b.number) ≡ true
     number = eq-eqb a.number b.number (ap (λ (t : Terminal). t.number) same)

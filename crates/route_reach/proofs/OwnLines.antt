@@ -3,7 +3,7 @@ use Rattle.std.proofs.Common.{◌≡◌, ℕ, ◌<◌, Bool, true, false, Option
 use Rattle.std.specs.Prelude.{◌&&◌, ◌||◌, not, nat_lt, slice_get}
 use Rattle.std.specs.List.{last_or, list_any}
 use Rattle.std.specs.Option.{option_map_or}
-use Rattle.std.proofs.lemmas.Bool.{false≢true, not-false, or_parts}
+use Rattle.std.proofs.lemmas.Bool.{not-false, or_parts}
 use Rattle.list_laws.proofs.Members.{In}
 use Rattle.list_laws.proofs.Places.{In-place}
 use Rattle.fpga_bounds.proofs.LineLemmas.{elem_line}
@@ -16,11 +16,12 @@ use Rattle.fpga_types.specs.declared.route.ElemKind.{ElemKind}
 use Rattle.fpga_types.specs.declared.route.ElemKind.TheVariants.{Source, Opin, Ipin, Sink}
 use Rattle.route_reach.specs.Printing.{IsFrame, IsPrinting, IsQuietBehind, NetFrame, ends_of, graph_in, is_end, is_open}
 use Rattle.route_reach.specs.declared.printed.Printed.{Printed}
-use Rattle.route_reach.proofs.BranchLemmas.{open-sink}
+use Rattle.route_reach.proofs.BranchLemmas.{no-last, open-sink}
 use Rattle.route_reach.proofs.FoundLemmas.{opin-is}
 use Rattle.route_reach.proofs.FrameLemmas.{fits-at}
-use Rattle.route_reach.proofs.LineFacts.{any-filter, channel-kinds, ipin-is, sink-is, source-is}
+use Rattle.route_reach.proofs.LineFacts.{any-filter, channel-kinds, ipin-is, sink-is, sink-kinds, source-is}
 use Rattle.route_reach.proofs.NetSinks.{before-ipin}
+use Rattle.route_reach.proofs.PinLines.{passed}
 use Rattle.route_reach.proofs.QuietKinds.{IsQuietSeen, ipin-after, opin-after, opin-branch, sink-after, source-branch, source-first}
 use Rattle.route_verify.specs.Depths.{deep_lines, same_tracked}
 use Rattle.route_verify.specs.Lines.{has_wire}
@@ -35,20 +36,6 @@ pub any-ends : (e : Elem) (xs : List Elem) → is_end e ≡ true
 any-ends e xs end = any-filter (same_elem e) is_end xs
     (λ x same. let kind = (same_elem-is e x same).kind in
     ap (λ (k : ElemKind). is_ipin k || is_sink k) (sym kind) ∙ end)
-
--- a test of two that is not failed is passed
-passed : (a b : Bool) → (a && not b) ≡ false → a ≡ true → b ≡ true
-passed true b h is = not-false b h
-passed false b h is = absurd (false≢true is)
-
--- lines without a last one are none
-no-last : (xs : List Elem) → last_or None xs ≡ None → xs ≡ []
-no-last [] h = refl
-no-last (x ∷ xs) h = absurd (later x xs h)
-  where
-    later : (y : Elem) (ys : List Elem) → last_or (Some y) ys ≡ None → ⊥
-    later y [] g = cc
-    later y (z ∷ zs) g = later z zs g
 
 module _ (f : NetFrame) (is : IsFrame f) where
   module _ (j : ℕ) (e : Elem) (at : slice_get f.net.elems j ≡ Some e) where
@@ -236,8 +223,4 @@ module _ (f : NetFrame) (is : IsFrame f) where
           of-kind (Some a) Sink last kind
           (sink-after f is.ordinary lines (list_any (same_elem e) lines) _ _ e a ipin
           (ends-at j e at sink) (behind-pin j e at a before sink ipin)
-          (new-here (sink-ends e.kind sink) (sink-new j e at sink)) low)
-        where
-          sink-ends : (k : ElemKind) → is_sink k ≡ true → (is_ipin k || is_sink k) ≡ true
-          sink-ends Sink h = refl
-          sink-ends k h = absurd (false≢true h)
+          (new-here (sink-kinds e.kind sink).1 (sink-new j e at sink)) low)

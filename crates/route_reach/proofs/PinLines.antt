@@ -6,7 +6,7 @@ use Rattle.std.specs.Option.{option_map_or, option_or}
 use Rattle.std.proofs.lemmas.Bool.{eqb-true, false≢true}
 use Rattle.std.proofs.lemmas.Option.{slice_get_within}
 use Rattle.list_laws.proofs.Members.{In, In-flat_map, In-list_any, In-map, all-from_In, from_In-filter_map}
-use Rattle.list_laws.proofs.Places.{In-place, some_is}
+use Rattle.list_laws.proofs.Places.{In-place, none_is_not_some, some_is}
 use Rattle.fpga_types.specs.Fit.{net_lines, splits}
 use Rattle.fpga_types.specs.Fits.{Fits, ProblemContext, device_of, is_moved_sink, is_other_ipin, is_other_opin, is_other_pin, is_other_sink, is_other_source, is_pin_apart, is_sink_not_once, net_line_fault, problem_context}
 use Rattle.fpga_types.specs.Kinds.{is_ipin, is_opin, is_sink}
@@ -54,7 +54,7 @@ not-either false b h = (refl, h)
 not-either true b h = cc
 
 -- a test that is not failed is passed
-passed : (a b : Bool) → (a && not b) ≡ false → a ≡ true → b ≡ true
+pub passed : (a b : Bool) → (a && not b) ≡ false → a ≡ true → b ≡ true
 passed a true h g = refl
 passed true false h g = cc
 passed false false h g = g
@@ -80,14 +80,8 @@ known-labelled arch Class m Pin x y n pin h g =
 known-labelled arch Pin m Pin x y n pin h g = absurd (false≢true g)
 known-labelled arch Pad m Pin x y n pin h g = absurd (false≢true g)
 known-labelled arch Track m Pin x y n pin h g = absurd (false≢true g)
-known-labelled arch l m Class x y n pin h g = absurd (none h)
-  where
-    none : None ≡ Some pin → ⊥
-    none e = cc
-known-labelled arch l m Track x y n pin h g = absurd (none h)
-  where
-    none : None ≡ Some pin → ⊥
-    none e = cc
+known-labelled arch l m Class x y n pin h g = absurd (none_is_not_some h)
+known-labelled arch l m Track x y n pin h g = absurd (none_is_not_some h)
 
 -- the pin with a label and a number that are of an input
 known-input : (arch : Arch) (kind : BlockKind) (sub : ℕ) (label : Label) (x y n : ℕ) (pin : PinAt)
@@ -98,14 +92,8 @@ known-input arch Logic sub Pin x y n pin h g =
     (spec-known arch (λ (spec : PinSpec). not spec.output && not spec.global) n g)
 known-input arch Input sub Pin x y n pin h g = absurd (false≢true g)
 known-input arch Output sub Pin x y n pin h g = absurd (false≢true g)
-known-input arch kind sub Class x y n pin h g = absurd (none h)
-  where
-    none : None ≡ Some pin → ⊥
-    none e = cc
-known-input arch kind sub Track x y n pin h g = absurd (none h)
-  where
-    none : None ≡ Some pin → ⊥
-    none e = cc
+known-input arch kind sub Class x y n pin h g = absurd (none_is_not_some h)
+known-input arch kind sub Track x y n pin h g = absurd (none_is_not_some h)
 
 -- the place of the pin with a label
 labelled-place : (label : Label) (x y n : ℕ) (pin : PinAt) → labelled_pin label x y n ≡ Some pin

@@ -10,10 +10,9 @@ use Rattle.list_laws.proofs.Members.{In, In-all, In-contains, In-filter, all-fro
 use Rattle.list_laws.proofs.Places.{get-In, last-push, some_is}
 use Rattle.fpga_bounds.specs.NetFit.{line_at}
 use Rattle.fpga_bounds.proofs.LineLemmas.{elem_line}
-use Rattle.fpga_graph.specs.GraphOf.{GraphOf}
 use Rattle.fpga_text.specs.Bytes.{Bytes}
-use Rattle.fpga_types.specs.Fit.{is_out_of_order, same_elem}
-use Rattle.fpga_types.specs.Fits.{has_sink, is_other_pin, is_other_sink, is_other_source, is_repeated, is_unknown, lacks_sink}
+use Rattle.fpga_types.specs.Fit.{same_elem}
+use Rattle.fpga_types.specs.Fits.{has_sink, lacks_sink}
 use Rattle.fpga_types.specs.Kinds.{is_channel, is_ipin, is_opin, is_pin, is_sink, is_source, may_follow, same_label}
 use Rattle.fpga_types.specs.Sound.{IsSoundNet}
 use Rattle.fpga_types.specs.Terminals.{driver_named, is_input, is_ordinary_pin_at, is_pin_at, is_terminal, named_terminal, sinks_named}
@@ -21,7 +20,7 @@ use Rattle.fpga_types.specs.declared.grid.Wire.{Wire}
 use Rattle.fpga_types.specs.declared.problem.Terminal.{Terminal}
 use Rattle.fpga_types.specs.declared.route.Elem.{Elem}
 use Rattle.fpga_types.specs.declared.route.ElemKind.{ElemKind}
-use Rattle.fpga_types.specs.declared.route.ElemKind.TheVariants.{Opin, Ipin, Sink}
+use Rattle.fpga_types.specs.declared.route.ElemKind.TheVariants.{Ipin, Sink}
 use Rattle.fpga_types.specs.declared.route.Label.TheVariants.{Track}
 use Rattle.fpga_types.specs.declared.route.RouteNet.{RouteNet}
 use Rattle.route_reach.specs.Good.{is_labelled, is_pin_among}
@@ -29,55 +28,16 @@ use Rattle.route_reach.specs.Printing.{AreApart, IsFrame, IsPrintedNet, IsPrinte
 use Rattle.route_reach.specs.Quiet.{IsQuiet}
 use Rattle.route_reach.specs.declared.printed.Printed.{Printed}
 use Rattle.route_reach.proofs.BranchLemmas.{open-sink}
+use Rattle.route_reach.proofs.FoundLemmas.{IsFitLine, fit-line, pin-other}
 use Rattle.route_reach.proofs.FrameLemmas.{fits-at, head-fits}
-use Rattle.route_reach.proofs.LineFacts.{any-filter, line-wire, same_elem-itself}
+use Rattle.route_reach.proofs.LineFacts.{any-filter, line-wire, same_elem-itself, sink-kinds}
 use Rattle.route_reach.proofs.NetSinks.{last-place}
 use Rattle.route_reach.proofs.OwnLines.{last-sink}
 use Rattle.route_reach.proofs.ElemLemmas.{on-wire}
 use Rattle.route_reach.proofs.QuietKinds.{fit-none}
-use Rattle.route_verify.specs.Lines.{JudgedLine, branches_loose, device_in, is_other_again, is_sink_again, is_stray_in, is_unfit, is_wire_of, judged_line}
+use Rattle.route_verify.specs.Lines.{is_stray_in, is_wire_of, judged_line}
 use Rattle.route_verify.specs.Reach.{reach_line}
 use Rattle.route_verify.specs.Wiring.{elem_wire}
-
--- the codes of the fit of a line at which none holds
-record HasNoCode (g : GraphOf) (at : JudgedLine) : Type 0 where
-  source : is_other_source at.fit ≡ false
-  sink : is_other_sink at.fit ≡ false
-  again : is_sink_again at.fit.route ≡ false
-  pin : is_other_pin (device_in g) at.fit ≡ false
-  other : is_other_again at.fit.route ≡ false
-  loose : branches_loose at ≡ false
-  order : is_out_of_order at.fit.route ≡ false
-
-no-code : (g : GraphOf) (at : JudgedLine) → is_unfit g at ≡ false → HasNoCode g at
-no-code g at h =
-    let a : Bool = is_unknown at.fit in
-    let b : Bool = is_repeated at.fit in
-    let c : Bool = is_other_source at.fit in
-    let d : Bool = is_other_sink at.fit in
-    let e : Bool = is_sink_again at.fit.route in
-    let p : Bool = is_other_pin (device_in g) at.fit in
-    let i : Bool = is_other_again at.fit.route in
-    let j : Bool = branches_loose at in
-    let k : Bool = at.fit.route.taken in
-    let l : Bool = is_out_of_order at.fit.route in
-    let p9 = or_parts (a || b || c || d || e || p || i || j || k) l h in
-    let p8 = or_parts (a || b || c || d || e || p || i || j) k p9.0 in
-    let p7 = or_parts (a || b || c || d || e || p || i) j p8.0 in
-    let p6 = or_parts (a || b || c || d || e || p) i p7.0 in
-    let p5 = or_parts (a || b || c || d || e) p p6.0 in
-    let p4 = or_parts (a || b || c || d) e p5.0 in
-    let p3 = or_parts (a || b || c) d p4.0 in
-    let p2 = or_parts (a || b) c p3.0 in
-    record {
-      source = p2.1;
-      sink = p3.1;
-      again = p4.1;
-      pin = p5.1;
-      other = p6.1;
-      loose = p7.1;
-      order = p9.1;
-    }
 
 -- with an element behind which nothing stands a list is whole
 whole-at : {A : Type 0} (xs : List A) (i : ℕ) (x : A) → slice_get xs i ≡ Some x
@@ -102,11 +62,6 @@ sink-ends x t h = go x.kind h
     go Sink g = refl
     go Ipin g = refl
     go k g = absurd (false≢true g)
-
-pin-other : (k : ElemKind) → is_pin k ≡ true → is_channel k ≡ false
-pin-other Opin h = refl
-pin-other Ipin h = refl
-pin-other k h = absurd (false≢true h)
 
 module _ (f : NetFrame) (is : IsFrame f) (printed : Printed)
     (so_far : IsPrintedTo f (length f.net.elems) printed) where
@@ -162,11 +117,7 @@ module _ (f : NetFrame) (is : IsFrame f) (printed : Printed)
   some-ends [] same =
       absurd (subst (λ (es : List Elem). In es ended.elem) (sym same)
       (In-filter is_end f.net.elems ended.elem (get-In f.net.elems ended.place ended.elem ended.at)
-      (end ended.elem.kind ended.sink)))
-    where
-      end : (k : ElemKind) → is_sink k ≡ true → (is_ipin k || is_sink k) ≡ true
-      end Sink h = refl
-      end k h = absurd (false≢true h)
+      (sink-kinds ended.elem.kind ended.sink).1))
   some-ends (x ∷ xs) same = omega arith
 
   some : 0 < length lines
@@ -178,11 +129,7 @@ module _ (f : NetFrame) (is : IsFrame f) (printed : Printed)
       let stands : StandsBehind f lines (Some ended.elem) =
       subst (StandsBehind f lines)
       (ap (last_or None) (take-length f.net.elems) ∙ ended.last) so_far.stands in
-      open-sink lines (stands.1 (other ended.elem.kind ended.sink)) some
-    where
-      other : (k : ElemKind) → is_sink k ≡ true → is_ipin k ≡ false
-      other Sink h = refl
-      other k h = absurd (false≢true h)
+      open-sink lines (stands.1 (sink-kinds ended.elem.kind ended.sink).0) some
 
   -- ---- the net with these lines
 
@@ -233,8 +180,8 @@ module _ (f : NetFrame) (is : IsFrame f) (printed : Printed)
         base : IsQuiet (graph_in f) f.reach (reach_line f.problem (line_behind f (take i lines) e))
         base = so_far.printing.quiet i e at
 
-        codes : HasNoCode (graph_in f) (judged_line f.problem (line_behind f (take i lines) e))
-        codes = no-code (graph_in f) (judged_line f.problem (line_behind f (take i lines) e))
+        codes : IsFitLine (graph_in f) (judged_line f.problem (line_behind f (take i lines) e))
+        codes = fit-line (graph_in f) (judged_line f.problem (line_behind f (take i lines) e))
             base.fitting
 
         in-order : option_map_or (λ (a : Elem). may_follow a.kind e.kind)

@@ -18,6 +18,7 @@ use Rattle.fpga_types.specs.declared.route.ElemKind.TheVariants.{Source, Opin, C
 use Rattle.fpga_types.specs.declared.route.RouteNet.{RouteNet}
 use Rattle.route_reach.specs.Printing.{NetFrame, graph_in, line_behind}
 use Rattle.route_reach.specs.Quiet.{IsQuiet}
+use Rattle.route_reach.proofs.LineFacts.{channel-kinds}
 use Rattle.route_verify.specs.Lines.{JudgedLine, branches_loose, device_in, is_other_again, is_sink_again, is_stray_in, is_unfit, is_wire_of}
 use Rattle.route_verify.specs.Reach.{ReachLine}
 use Rattle.route_verify.specs.Wiring.{are_unconnected, elem_wire, misses, pin_on, wire_on}
@@ -266,12 +267,6 @@ module _ (f : NetFrame) (ordinary : f.net.global ≡ false) where
         }
         go k is there = absurd (false≢true is)
 
-  kinds : (k : ElemKind) → is_channel k ≡ true → (is_source k ≡ false) × (is_opin k ≡ false)
-      × (is_ipin k ≡ false) × (is_sink k ≡ false)
-  kinds ChanX is = (refl, refl, refl, refl)
-  kinds ChanY is = (refl, refl, refl, refl)
-  kinds k is = absurd (false≢true is)
-
   module _ (before : List Elem) (previous : Option Elem) (again wire_again : Bool)
       (depth : Option ℕ) (e : Elem) (w : Wire)
       (next : IsNextWire f previous again wire_again e w) where
@@ -280,7 +275,7 @@ module _ (f : NetFrame) (ordinary : f.net.global ≡ false) where
 
     k : (is_source e.kind ≡ false) × (is_opin e.kind ≡ false) × (is_ipin e.kind ≡ false)
         × (is_sink e.kind ≡ false)
-    k = kinds e.kind next.channel
+    k = channel-kinds e.kind next.channel
 
     not-again : ((branch ≡ false) × (wire_again ≡ false))
         ⊎ ((branch ≡ true) × (again ≡ true) × (wire_again ≡ true))

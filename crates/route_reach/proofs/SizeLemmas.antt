@@ -241,21 +241,18 @@ module _ (f : Frame) (distinct : AreDistinct f.all) where
         same (length (below width)) width (m * 2) (length-range_with_len 0 width),
       )
 
+  below-lits : (m : ℕ) {n : ℕ} → n ≤ length (below m) * 2 → n ≤ m * 2
+  below-lits m h = omega (arith, h, length-range_with_len 0 m)
+
   used-lits : lit_count (each_wire f (reached_is_used f)) ≤ count * (width * ((f.reach + 1) * 2))
   used-lits = two-lits (reached_is_used f) (f.reach + 1) (λ s t. below-lits (f.reach + 1)
       (lits-map (λ d. unreached f s t d ∷ uses f s t ∷ []) 2 (below (f.reach + 1))
       (λ d. omega arith)))
-    where
-      below-lits : (m : ℕ) {n : ℕ} → n ≤ length (below m) * 2 → n ≤ m * 2
-      below-lits m h = omega (arith, h, length-range_with_len 0 m)
 
   stays-lits : lit_count (each_wire f (stays_reached f)) ≤ count * (width * (f.reach * 2))
   stays-lits = two-lits (stays_reached f) f.reach (λ s t. below-lits f.reach
       (lits-map (λ d. unreached f s t d ∷ reached f s t (d + 1) ∷ []) 2 (below f.reach)
       (λ d. omega arith)))
-    where
-      below-lits : (m : ℕ) {n : ℕ} → n ≤ length (below m) * 2 → n ≤ m * 2
-      below-lits m h = omega (arith, h, length-range_with_len 0 m)
 
   -- those that say from where a wire is reached
   comes-lits : lit_count (each_wire f (comes_from_near f))
@@ -283,12 +280,9 @@ module _ (f : Frame) (distinct : AreDistinct f.all) where
           omega (
             arith,
             each,
-            same (length (below f.reach)) f.reach (2 + n)
+            ap (λ (k : ℕ). k * (2 + n))
                 (length-range_with_len 0 f.reach),
           )
-        where
-          same : (a b k : ℕ) → a ≡ b → a * k ≡ b * k
-          same a b k e = ap (λ (n : ℕ). n * k) e
 
       slot : (s : ℕ) → lit_count (slot_comes wires f.reach graph f.all (near_slots f s) s)
           ≤ width * (f.reach * (2 + length (near_slots f s)))

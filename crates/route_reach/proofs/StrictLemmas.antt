@@ -36,7 +36,8 @@ use Rattle.route_reach.specs.Trees.{ReachCoversStrict, TracksSayReached, slot_wi
 use Rattle.route_reach.proofs.Chains.{led-reached}
 use Rattle.route_reach.proofs.DeepLemmas.{Before, IsWalk, by_channel, by_opin, by_sink, deep}
 use Rattle.route_reach.proofs.ElemLemmas.{cell-equal, channel-wire, labelled-pin}
-use Rattle.route_reach.proofs.FoundLemmas.{before-channel, channel-no_source, channel-others, opin-is}
+use Rattle.route_reach.proofs.FoundLemmas.{before-channel, channel-no_source, opin-is}
+use Rattle.route_reach.proofs.LineFacts.{channel-kinds}
 use Rattle.route_reach.proofs.ModelLemmas.{made-below}
 use Rattle.route_reach.proofs.NetSinks.{before-ipin, ending, no-source}
 use Rattle.route_reach.proofs.Wires.{from-slots_in, in-slots_in, joins-is, one-slot, reaches-is, slot-on_trace}
@@ -237,12 +238,12 @@ module _ (width reach : ℕ) (p : RoutingProblem) (sound : IsSound p.route) (fit
         → slice_get elems (suc j) ≡ Some e → is_sink a.kind ≡ true → is_channel e.kind ≡ true
         → list_any (same_elem e) (take (suc j) elems) ≡ true
     branches j a e at_a at sink channel =
-        let kinds = channel-others e.kind channel in
+        let kinds = channel-kinds e.kind channel in
         let again : Bool = list_any (same_elem e) (take (suc j) elems) in
         not-false again
         (sym ((λ i. not (is_ipin e.kind) && not (is_sink e.kind)
         && option_map_or (λ (b : Elem). is_sink b.kind) (before j a at_a i) false && not again)
-        ∙ (λ i. not (kinds.0 i) && not (kinds.1 i) && sink i && not again))
+        ∙ (λ i. not (kinds.2 i) && not (kinds.3 i) && sink i && not again))
         ∙ (elem-fits (suc j) e at).joined)
 
     walk : IsWalk g (outs net) (set_of n) same_elem wire elems

@@ -8,7 +8,7 @@ use Rattle.fpga_types.specs.declared.route.RouteText.{RouteText}
 use Rattle.sat_clause.specs.Formula.{Cnf}
 use Rattle.sat_clause.specs.Step.{Step}
 use Rattle.route_sweep.specs.Asked.{Asked}
-use Rattle.route_sweep.specs.Climb.{AreRefuted, EndsAt, FindsThere, IsRefuted, climbed}
+use Rattle.route_sweep.specs.Climb.{AreRefuted, ClimbsTo, EndsAt, FindsThere, IsRefuted, climbed}
 use Rattle.route_sweep.specs.declared.found.Climbed.TheVariants.{Unroutable}
 use Rattle.route_sweep.specs.declared.found.Found.{Found}
 use Rattle.route_sweep.specs.declared.found.Found.TheVariants.{Routed, Refuted, Spent}
@@ -58,16 +58,21 @@ module _ (copies : ℕ) (Refutes : ℕ → List Step → Bytes → Type 0)
     -- the climb ends here
     pub climb-ends : (most : ℕ) (came : Result Found Stop) → width ≤ most → result ≡ came
         → (IsRefuted came → width ≡ most)
-        → EndsAt copies Refutes LeavesOpen ask most formula good before new width came
-    climb-ends most came low is last = record {
-      below = h.below;
-      next = h.next;
-      within = omega (arith, low, h.next);
-      between = now;
-      refuted = h.refuted;
-      then = subst (There width now new) is found;
-      last = last;
-    }
+        → ClimbsTo copies Refutes LeavesOpen ask most formula good before new (climbed width came)
+    climb-ends most came low is last = (
+      width,
+      came,
+      refl,
+      record {
+        below = h.below;
+        next = h.next;
+        within = omega (arith, low, h.next);
+        between = now;
+        refuted = h.refuted;
+        then = subst (There width now new) is found;
+        last = last;
+      },
+    )
 
   -- the last width is refuted
   pub record IsOver (most : ℕ) (before now : ShelfState) : Type 0 where

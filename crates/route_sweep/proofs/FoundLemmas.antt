@@ -1,5 +1,5 @@
 -- What a search has found, by what was written of it.
-use Rattle.std.proofs.Common.{◌≡◌, ℕ, ◌<◌, List, sym, subst, inl, inr}
+use Rattle.std.proofs.Common.{◌≡◌, ℕ, List, sym, subst, inl, inr}
 use Rattle.std.specs.Prelude.{Result, Ok, Err, Vec}
 use Rattle.std.specs.Global.{Global}
 use Rattle.std.specs.Result.{result_and}
@@ -94,21 +94,9 @@ module _ (copies : ℕ) (Refutes : List Step → Bytes → Type 0) (LeavesOpen :
 
 -- ---- a width that was left open before the budget was spent
 
--- no routing was found there
-pub routed-not-short : (budget : ℕ) (wrote : Result (Unit {0}) Stop) (came : Result Found Stop)
-    → came ≡ result_and wrote (Ok Routed) → FindsShort budget came → ⊥
-routed-not-short budget (Ok done) came is h = subst (FindsShort budget) is h
-routed-not-short budget (Err stop) came is h = subst (FindsShort budget) is h
-
--- and no refutation
-pub refuted-not-short : (budget : ℕ) (lead : Vec ℕ Global) (wrote : Result (Unit {0}) Stop)
-    (came : Result Found Stop) → came ≡ result_and wrote (Ok (Refuted lead))
-    → FindsShort budget came → ⊥
-refuted-not-short budget lead (Ok done) came is h = subst (FindsShort budget) is h
-refuted-not-short budget lead (Err stop) came is h = subst (FindsShort budget) is h
-
--- it was left open by the search
-pub spent-short : (budget learned : ℕ) (wrote : Result (Unit {0}) Stop) (came : Result Found Stop)
-    → came ≡ result_and wrote (Ok (Spent learned)) → FindsShort budget came → learned < budget
-spent-short budget learned (Ok done) came is h = subst (FindsShort budget) is h
-spent-short budget learned (Err stop) came is h = absurd (subst (FindsShort budget) is h)
+-- it was so by what was found, since an error of writing is none of these
+pub found-short : (budget : ℕ) (found : Found) (wrote : Result (Unit {0}) Stop)
+    (came : Result Found Stop) → came ≡ result_and wrote (Ok found) → FindsShort budget came
+    → FindsShort budget (Ok found)
+found-short budget found (Ok done) came is h = subst (FindsShort budget) is h
+found-short budget found (Err stop) came is h = absurd (subst (FindsShort budget) is h)

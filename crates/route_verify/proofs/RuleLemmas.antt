@@ -4,6 +4,7 @@ use Rattle.std.specs.Prelude.{◌&&◌, ◌==◌, length, not}
 use Rattle.std.specs.BTreeSet.{BTreeSet}
 use Rattle.std.specs.List.{list_all}
 use Rattle.std.specs.Option.{option_map_or}
+use Rattle.std.proofs.Math.Bool.{and-false}
 use Rattle.fpga_bounds.specs.ElemContext.{with_full}
 use Rattle.fpga_bounds.specs.NetEnds.{NamedNet}
 use Rattle.fpga_bounds.specs.NetFit.{head_line}
@@ -26,7 +27,7 @@ use Rattle.fpga_types.specs.declared.route.Elem.{Elem}
 use Rattle.fpga_types.specs.declared.route.RouteNet.{RouteNet}
 use Rattle.route_verify.specs.Heads.{head_cause}
 use Rattle.route_verify.specs.Judged.{graph_of, line_cause, line_causes}
-use Rattle.route_verify.specs.Lines.{has_wire, is_stray_in, is_wire_of, without_count}
+use Rattle.route_verify.specs.Lines.{JudgedLine, has_wire, is_stray_in, is_wire_of, without_count}
 use Rattle.route_verify.specs.Reach.{causes_within, line_cause_by, reach_line}
 use Rattle.route_verify.specs.Rules.{IsLineOf, reached_at}
 use Rattle.route_verify.specs.Wiring.{wire_on}
@@ -77,31 +78,36 @@ module _ (at : ElemLine) (seen : BTreeSet ElemKey) (line : RouteLine) (is : IsLi
         }) in
         same ∙ table-is reach width net.problem line
 
+-- what the causes look at, of a Net line
+abbrev pub bare_line : Option Terminal → (known repeated global last lacking : Bool) → JudgedLine
+bare_line driver known repeated global last lacking = record {
+  fit = record {
+    route = record {
+      elem = None;
+      previous = None;
+      again = false;
+      taken = false;
+      full = false;
+      last = last;
+      global = global;
+    };
+    known = known;
+    repeated = repeated;
+    driver = driver;
+    ends = false;
+    takes_in = false;
+    lacking = lacking;
+  };
+  wire_again = false;
+  wire_taken = false;
+  stray = false;
+}
+
 -- the cause against a Net line
 pub by-head : (g : GraphOf) (line : ℕ) (driver : Option Terminal)
     (known repeated global last lacking : Bool)
-    → first_code line_causes g line (record {
-      fit = record {
-        route = record {
-          elem = None;
-          previous = None;
-          again = false;
-          taken = false;
-          full = false;
-          last = last;
-          global = global;
-        };
-        known = known;
-        repeated = repeated;
-        driver = driver;
-        ends = false;
-        takes_in = false;
-        lacking = lacking;
-      };
-      wire_again = false;
-      wire_taken = false;
-      stray = false;
-    }) ≡ head_cause line known repeated (not global && last) lacking
+    → first_code line_causes g line (bare_line driver known repeated global last lacking)
+    ≡ head_cause line known repeated (not global && last) lacking
 by-head g line driver known repeated global last true = refl
 by-head g line driver false repeated global last false = refl
 by-head g line driver true true global last false = refl
@@ -119,21 +125,23 @@ head-is width p earlier net =
     (has_net earlier net.name) net.global (length net.elems == 0)
     (lacks_sink p (head_line earlier net))
 
-and-false : (b : Bool) → (b && false) ≡ false
-and-false true = refl
-and-false false = refl
+-- a net with a name that the netlist does not have lacks nothing
+pub unnamed-whole : (p : RoutingProblem) (earlier : List RouteNet) (net : RouteNet)
+    → number_named p.netlist.nets net.name ≡ None
+    → lacks_sink p (head_line earlier net) ≡ false
+unnamed-whole p earlier net none =
+    ap (λ (named : Option Net). not net.global && length net.elems == 0
+    && not (list_all (has_sink []) (option_map_or (sinks_of p) named [])))
+    (unnamed p.netlist.nets net.name none)
+    ∙ and-false (not net.global && length net.elems == 0)
 
 -- a name that the netlist does not have
 pub head-unknown : (reach : Option ℕ) (width : ℕ) (p : RoutingProblem) (earlier : List RouteNet)
     (net : RouteNet) → number_named p.netlist.nets net.name ≡ None
     → line_cause_by reach width p (head_line earlier net) ≡ Some (Bad net.line 807)
 head-unknown reach width p earlier net none =
-    let lacks : lacks_sink p (head_line earlier net) ≡ false =
-    ap (λ (named : Option Net). not net.global && length net.elems == 0
-    && not (list_all (has_sink []) (option_map_or (sinks_of p) named [])))
-    (unnamed p.netlist.nets net.name none)
-    ∙ and-false (not net.global && length net.elems == 0) in
     head-by reach width p earlier net
     ∙ head-is width p earlier net
     ∙ (λ i. head_cause net.line (not-known p.netlist.nets net.name net.global none i)
-    (has_net earlier net.name) (not net.global && length net.elems == 0) (lacks i))
+    (has_net earlier net.name) (not net.global && length net.elems == 0)
+    (unnamed-whole p earlier net none i))

@@ -15,11 +15,11 @@ use Rattle.route_ways.specs.Plain.{CanSearch, IsLeftOpen, IsRefuted, copies_of}
 use Rattle.route_ways.specs.Trimming.{IsCutDown}
 use Rattle.route_ways.specs.declared.plain.Plain.{Plain}
 use Rattle.route_ways.specs.declared.way.Way.{Way}
-use Rattle.route_ways.specs.declared.way.Way.TheVariants.{Alone, Counted, Cut, Negotiated}
+use Rattle.route_ways.specs.declared.way.Way.TheVariants.{Counted, Cut, Searched}
 
 -- a way, with no more of what is known of the problem than the crowd that it counts: a search, one
--- behind counting, or one whose refutations are cut down. Negotiation refutes nothing and leaves
--- nothing open, so that a search behind it is a search
+-- behind counting, or one whose refutations are cut down. A guess refutes nothing and leaves nothing
+-- open, so that a search behind it is a search
 pub data Course : Type 0 where
   Searches : Plain → Course
   Counts : Plain → (crowd : List ℕ) → Course
@@ -27,9 +27,8 @@ pub data Course : Type 0 where
 
 -- so seen
 abbrev pub course_of : Way → Course
-course_of (Alone plain) = Searches plain
-course_of (Counted counting) = Counts counting.rest counting.facts.now.crowd
-course_of (Negotiated negotiating) = Searches negotiating.rest
+course_of (Searched guessing) = Searches guessing.rest
+course_of (Counted counting) = Counts counting.rest.rest counting.facts.now.crowd
 course_of (Cut trimming) = Trims trimming.rest
 
 -- the search in it
@@ -65,11 +64,10 @@ pub record MayEndAfter (way : Course) (learned : ℕ) : Type 0 where
 -- counting needs the facts of the problem, and clauses that begin with those of one track in each
 -- cell; trimming needs clauses that are fair, so that it blames no net for what others forbid
 abbrev pub serves_by : Way → RoutingProblem → ℕ → Cnf → Type 0
-serves_by (Alone plain) p width formula = CanSearch plain
+serves_by (Searched guessing) p width formula = CanSearch guessing.rest
 serves_by (Counted counting) p width formula =
     AreFactsOf p counting.facts.now × IsBegunBy formula (cnf_of width p)
-    × CanSearch counting.rest
-serves_by (Negotiated negotiating) p width formula = CanSearch negotiating.rest
+    × CanSearch counting.rest.rest
 serves_by (Cut trimming) p width formula = IsFair width p formula × CanSearch trimming.rest
 
 -- the log refutes the formula so, and this is said before the report

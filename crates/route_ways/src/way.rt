@@ -1,6 +1,6 @@
 //! The ways that words can ask for.
 use crate::counting::Counting;
-use crate::negotiating::Negotiating;
+use crate::guessing::Guessing;
 use crate::plain::Plain;
 use crate::trimming::Trimming;
 use fpga_bounds::PlacedProblem;
@@ -11,14 +11,18 @@ use std::alloc::{AllocError, Global};
 /// A way that words can ask for.
 #[derive(Clone, Copy)]
 pub enum Way<'a> {
-    /// A search alone.
-    Alone { plain: Plain },
-    /// Counting in front of a search.
-    Counted { counting: Counting<'a, Plain> },
-    /// Negotiation in front of a search.
-    Negotiated { negotiating: Negotiating<Plain> },
+    /// A search, behind a guess.
+    Searched {
+        guessing: Guessing<Plain>,
+    },
+    /// Counting in front of that.
+    Counted {
+        counting: Counting<'a, Guessing<Plain>>,
+    },
     /// A search whose refutations are cut down.
-    Cut { trimming: Trimming<Plain> },
+    Cut {
+        trimming: Trimming<Plain>,
+    },
 }
 
 impl<'a> Searcher for Way<'a> {
@@ -36,9 +40,8 @@ impl<'a> Searcher for Way<'a> {
 
     fn copy_count(&self) -> u32 {
         match self {
-            Way::Alone { plain } => plain.copy_count(),
+            Way::Searched { guessing } => guessing.copy_count(),
             Way::Counted { counting } => counting.copy_count(),
-            Way::Negotiated { negotiating } => negotiating.copy_count(),
             Way::Cut { trimming } => trimming.copy_count(),
         }
     }
@@ -52,11 +55,8 @@ impl<'a> Searcher for Way<'a> {
         patience: &mut P,
     ) -> Result<Ended, AllocError> {
         match *self {
-            Way::Alone { plain } => plain.search(alloc, problem, width, formula, patience),
+            Way::Searched { guessing } => guessing.search(alloc, problem, width, formula, patience),
             Way::Counted { counting } => counting.search(alloc, problem, width, formula, patience),
-            Way::Negotiated { negotiating } => negotiating.search(
-                alloc, problem, width, formula, patience,
-            ),
             Way::Cut { trimming } => trimming.search(alloc, problem, width, formula, patience),
         }
     }

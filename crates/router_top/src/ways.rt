@@ -11,7 +11,7 @@ ghost use Rattle.router_top.specs.Ways.{core_way, plain_by, way_by, wires_by};
 ghost use Rattle.sat_clause.specs.Formula.{Cnf};
 
 use problem_facts::Facts;
-use route_ways::{Counting, Negotiating, Plain, Solver, Trimming, Way, Wires};
+use route_ways::{Counting, Guess, Guessing, Plain, Solver, Trimming, Way, Wires};
 use router_words::{CoreJob, Members, Method, SearchJob};
 
 // What the clauses of a method say of wires.
@@ -53,7 +53,7 @@ fn plain_by(search: &SearchJob<'_>, members: Option<Members>) -> Plain
 
 /// The way in which a search is to be done, by one or by as many as take turns. Where it counts, it
 /// does so by the facts of its problem, and the clauses are to begin with those of
-/// [`Strict`](route_encode::Strict). Within a reach it negotiates first.
+/// [`Strict`](route_encode::Strict). Before it searches it guesses.
 pub fn way_by<'a>(
     search: &SearchJob<'_>,
     members: Option<Members>,
@@ -68,16 +68,28 @@ pub fn way_by<'a>(
         → serves_by result p width formula }
 {
     let plain = plain_by(search, members);
+    let guessing = Guessing {
+        guess: guess_by(search.method),
+        rest: plain,
+    };
     if search.count {
         let Some(facts) = known else { unreachable!() };
-        let counting = Counting { rest: plain, facts };
+        let counting = Counting {
+            rest: guessing,
+            facts,
+        };
         return Way::Counted { counting };
     }
-    if let Method::Within(reach) = search.method {
-        let negotiating = Negotiating { rest: plain, reach };
-        return Way::Negotiated { negotiating };
+    Way::Searched { guessing }
+}
+
+// What is guessed before a search: pins and an order leave few of the routings that there are.
+fn guess_by(method: Method) -> Guess {
+    match method {
+        Method::Strictly => Guess::Tracks,
+        Method::Within(reach) => Guess::Wires { reach },
+        Method::Pinned | Method::Ordered => Guess::Nothing,
     }
-    Way::Alone { plain }
 }
 
 /// The way of `core`, which serves clauses that are fair.

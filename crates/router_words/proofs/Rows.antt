@@ -1,14 +1,15 @@
 -- Worked rows: the jobs that words ask for, each by computation.
 use Rattle.std.proofs.Common.{◌≡◌, ℕ, Bool, true, false, List, [], ◌∷◌, codes, refl}
 use Rattle.std.specs.Fmt.{digits}
-use Rattle.std.specs.Prelude.{Result, Ok, Err, None, Some}
+use Rattle.std.specs.Prelude.{Option, Result, Ok, Err, None, Some}
 use Rattle.clap.proofs.OnLiterals.{clap_on_literals}
 use Rattle.fpga_problem.specs.Files.{FileNames, PlacedNames}
 use Rattle.router_words.specs.Command.{job_of}
-use Rattle.router_words.specs.Job.{Blames, Bounds, Checks, Decodes, Encodes, Generates, JobAsked, Judges, Narrows, Negotiates, Routes, SearchAsked, Sweeps, Tries, Verifies}
+use Rattle.router_words.specs.Job.{Blames, Bounds, Checks, CoreAsked, Decodes, Encodes, Generates, GlobalAsked, JobAsked, Judges, LeastAsked, Narrows, Negotiates, Routes, SearchAsked, Sweeps, Tries, Verifies}
 use Rattle.router_words.specs.Word.{Word}
 use Rattle.router_words.specs.declared.fault.Refusal.{Refusal}
 use Rattle.router_words.specs.declared.fault.Refusal.TheVariants.{Clash, Command, Form, Number, Overwriting}
+use Rattle.router_words.specs.declared.method.Method.{Method}
 use Rattle.router_words.specs.declared.method.Method.TheVariants.{Ordered, Pinned, Strictly, Within}
 
 abbrev Asked : Type 0
@@ -35,25 +36,33 @@ told width prefix conflicts keep = record {
   stats = false;
 }
 
--- a route of the files a, n, p and r
-abbrev routes : ℕ → Word → ℕ → Bool → Asked
-routes width prefix conflicts keep = Ok (Routes (record {
-  files = four_files;
-  search = told width prefix conflicts keep;
-  members = None;
-}))
+-- the same at width 5 to `out`, with no option at all
+abbrev usual : SearchAsked
+usual = told 5 (codes "out") 1_000_000 false
 
--- the same at width 5 to `out` by so many searches, with the order of this seed
+-- a route of the files a, n, p and r, by one search
+abbrev routes_by : SearchAsked → Asked
+routes_by search = Ok (Routes (record { files = four_files; search = search; members = None }))
+
+-- the same, told without an option of its method
+abbrev routes : ℕ → Word → ℕ → Bool → Asked
+routes width prefix conflicts keep = routes_by (told width prefix conflicts keep)
+
+-- a route at width 5 to `out` by so many searches, with the order of this seed
 abbrev turns : (count seed : ℕ) → Asked
 turns count seed = Ok (Routes (record {
   files = four_files;
-  search = told 5 (codes "out") 1_000_000 false;
+  search = usual;
   members = Some (record { count = count; seed = seed });
 }))
 
 -- `route a n p r` and more words
 abbrev route : List Word → Asked
 route more = job_of (codes "route" ∷ codes "a" ∷ codes "n" ∷ codes "p" ∷ codes "r" ∷ more)
+
+-- `route a n p r 5 out` and more words
+abbrev route_out : List Word → Asked
+route_out more = route (codes "5" ∷ codes "out" ∷ more)
 
 pub no_words : job_of [] ≡ Err Command
 no_words = refl
@@ -65,7 +74,7 @@ pub too_few : job_of (codes "route" ∷ codes "a" ∷ []) ≡ Err Form
 unfolding clap_on_literals
 too_few = refl
 
-pub too_many : route (codes "5" ∷ codes "out" ∷ codes "x" ∷ []) ≡ Err Form
+pub too_many : route_out (codes "x" ∷ []) ≡ Err Form
 unfolding clap_on_literals
 too_many = refl
 
@@ -99,41 +108,30 @@ pub options : job_of (codes "route" ∷ codes "--conflicts=5" ∷ codes "a" ∷ 
 unfolding clap_on_literals
 options = refl
 
-pub no_budget : route (codes "5" ∷ codes "out" ∷ codes "--conflicts" ∷ codes "0" ∷ []) ≡ Err Number
+pub no_budget : route_out (codes "--conflicts" ∷ codes "0" ∷ []) ≡ Err Number
 unfolding clap_on_literals
 no_budget = refl
 
 -- a limit in seconds
-pub limited : route (codes "5" ∷ codes "out" ∷ codes "--seconds" ∷ codes "1000000" ∷ [])
-    ≡ Ok (Routes (record {
-      files = four_files;
-      search = record (told 5 (codes "out") 1_000_000 false) { seconds = Some 1_000_000 };
-      members = None;
-    }))
+pub limited : route_out (codes "--seconds" ∷ codes "1000000" ∷ [])
+    ≡ routes_by (record usual { seconds = Some 1_000_000 })
 unfolding clap_on_literals
 limited = refl
 
-pub no_second : route (codes "5" ∷ codes "out" ∷ codes "--seconds=0" ∷ []) ≡ Err Number
+pub no_second : route_out (codes "--seconds=0" ∷ []) ≡ Err Number
 unfolding clap_on_literals
 no_second = refl
 
-pub too_many_seconds : route (codes "5" ∷ codes "out" ∷ codes "--seconds=1000001" ∷ [])
-    ≡ Err Number
+pub too_many_seconds : route_out (codes "--seconds=1000001" ∷ []) ≡ Err Number
 unfolding clap_on_literals
 too_many_seconds = refl
 
 -- the numbers of the run
-pub tells_numbers : route (codes "5" ∷ codes "out" ∷ codes "--stats" ∷ [])
-    ≡ Ok (Routes (record {
-      files = four_files;
-      search = record (told 5 (codes "out") 1_000_000 false) { stats = true };
-      members = None;
-    }))
+pub tells_numbers : route_out (codes "--stats" ∷ []) ≡ routes_by (record usual { stats = true })
 unfolding clap_on_literals
 tells_numbers = refl
 
-pub tells_numbers_twice : route (codes "5" ∷ codes "out" ∷ codes "--stats" ∷ codes "--stats" ∷ [])
-    ≡ Err Form
+pub tells_numbers_twice : route_out (codes "--stats" ∷ codes "--stats" ∷ []) ≡ Err Form
 unfolding clap_on_literals
 tells_numbers_twice = refl
 
@@ -147,43 +145,40 @@ pub empty : route (codes "5" ∷ [] ∷ []) ≡ routes 5 [] 1_000_000 false
 unfolding clap_on_literals
 empty = refl
 
-pub twice : route (codes "5" ∷ codes "out" ∷ codes "--keep" ∷ codes "--keep" ∷ []) ≡ Err Form
+pub twice : route_out (codes "--keep" ∷ codes "--keep" ∷ []) ≡ Err Form
 unfolding clap_on_literals
 twice = refl
 
-pub with_value : route (codes "5" ∷ codes "out" ∷ codes "--keep=x" ∷ []) ≡ Err Form
+pub with_value : route_out (codes "--keep=x" ∷ []) ≡ Err Form
 unfolding clap_on_literals
 with_value = refl
 
-pub cut_name : route (codes "5" ∷ codes "out" ∷ codes "--conf" ∷ codes "5" ∷ []) ≡ Err Form
+pub cut_name : route_out (codes "--conf" ∷ codes "5" ∷ []) ≡ Err Form
 unfolding clap_on_literals
 cut_name = refl
 
-pub help : route (codes "5" ∷ codes "out" ∷ codes "--help" ∷ []) ≡ Err Form
+pub help : route_out (codes "--help" ∷ []) ≡ Err Form
 unfolding clap_on_literals
 help = refl
 
-pub by_turns : route (codes "5" ∷ codes "out" ∷ codes "--members" ∷ codes "3"
-    ∷ codes "--seed=7" ∷ [])
-    ≡ turns 3 7
+pub by_turns : route_out (codes "--members" ∷ codes "3" ∷ codes "--seed=7" ∷ []) ≡ turns 3 7
 unfolding clap_on_literals
 by_turns = refl
 
-pub default_seed : route (codes "5" ∷ codes "out" ∷ codes "--members" ∷ codes "8" ∷ []) ≡ turns 8 1
+pub default_seed : route_out (codes "--members" ∷ codes "8" ∷ []) ≡ turns 8 1
 unfolding clap_on_literals
 default_seed = refl
 
-pub nine_members : route (codes "5" ∷ codes "out" ∷ codes "--members" ∷ codes "9" ∷ []) ≡ Err Number
+pub nine_members : route_out (codes "--members" ∷ codes "9" ∷ []) ≡ Err Number
 unfolding clap_on_literals
 nine_members = refl
 
-pub seed_alone : route (codes "5" ∷ codes "out" ∷ codes "--seed" ∷ codes "3" ∷ []) ≡ Err Clash
+pub seed_alone : route_out (codes "--seed" ∷ codes "3" ∷ []) ≡ Err Clash
 unfolding clap_on_literals
 seed_alone = refl
 
 -- a number that is out of range is told before the seed that stands alone
-pub great_seed_alone : route (codes "5" ∷ codes "out" ∷ codes "--seed" ∷ codes "2147483648" ∷ [])
-    ≡ Err Number
+pub great_seed_alone : route_out (codes "--seed" ∷ codes "2147483648" ∷ []) ≡ Err Number
 unfolding clap_on_literals
 great_seed_alone = refl
 
@@ -194,72 +189,50 @@ seed_alone_too_wide = refl
 
 -- a route with pinned tracks
 pub pinned : route (codes "--pin" ∷ codes "5" ∷ codes "out" ∷ [])
-    ≡ Ok (Routes (record {
-      files = four_files;
-      search = record (told 5 (codes "out") 1_000_000 false) { method = Pinned };
-      members = None;
-    }))
+    ≡ routes_by (record usual { method = Pinned })
 unfolding clap_on_literals
 pinned = refl
 
 -- a route with tracks in order
 pub ordered : route (codes "5" ∷ codes "--symmetry" ∷ codes "out" ∷ [])
-    ≡ Ok (Routes (record {
-      files = four_files;
-      search = record (told 5 (codes "out") 1_000_000 false) { method = Ordered };
-      members = None;
-    }))
+    ≡ routes_by (record usual { method = Ordered })
 unfolding clap_on_literals
 ordered = refl
 
-pub pinned_and_ordered : route (codes "5" ∷ codes "out" ∷ codes "--symmetry" ∷ codes "--pin" ∷ [])
-    ≡ Err Clash
+pub pinned_and_ordered : route_out (codes "--symmetry" ∷ codes "--pin" ∷ []) ≡ Err Clash
 unfolding clap_on_literals
 pinned_and_ordered = refl
 
 -- a route within a reach
-pub reaches : route (codes "5" ∷ codes "out" ∷ codes "--reach=01" ∷ [])
-    ≡ Ok (Routes (record {
-      files = four_files;
-      search = record (told 5 (codes "out") 1_000_000 false) { method = Within 1 };
-      members = None;
-    }))
+pub reaches : route_out (codes "--reach=01" ∷ []) ≡ routes_by (record usual { method = Within 1 })
 unfolding clap_on_literals
 reaches = refl
 
-pub no_reach : route (codes "5" ∷ codes "out" ∷ codes "--reach=0" ∷ []) ≡ Err Number
+pub no_reach : route_out (codes "--reach=0" ∷ []) ≡ Err Number
 unfolding clap_on_literals
 no_reach = refl
 
-pub route_pins_and_reaches : route (codes "5" ∷ codes "out" ∷ codes "--reach=1"
-    ∷ codes "--pin" ∷ [])
-    ≡ Err Clash
+pub route_pins_and_reaches : route_out (codes "--reach=1" ∷ codes "--pin" ∷ []) ≡ Err Clash
 unfolding clap_on_literals
 route_pins_and_reaches = refl
 
 -- a route that counts first, in any method with one track in each cell
 pub counts : route (codes "--count" ∷ codes "5" ∷ codes "out" ∷ codes "--pin" ∷ [])
-    ≡ Ok (Routes (record {
-      files = four_files;
-      search = record (told 5 (codes "out") 1_000_000 false) { count = true; method = Pinned };
-      members = None;
-    }))
+    ≡ routes_by (record usual { count = true; method = Pinned })
 unfolding clap_on_literals
 counts = refl
 
-pub counts_and_reaches : route (codes "5" ∷ codes "out" ∷ codes "--count" ∷ codes "--reach=1" ∷ [])
-    ≡ Err Clash
+pub counts_and_reaches : route_out (codes "--count" ∷ codes "--reach=1" ∷ []) ≡ Err Clash
 unfolding clap_on_literals
 counts_and_reaches = refl
 
-pub counts_twice : route (codes "5" ∷ codes "out" ∷ codes "--count" ∷ codes "--count" ∷ [])
-    ≡ Err Form
+pub counts_twice : route_out (codes "--count" ∷ codes "--count" ∷ []) ≡ Err Form
 unfolding clap_on_literals
 counts_twice = refl
 
 -- a number that is out of range is told before options that exclude each other
-pub no_members_pin_and_reach : route (codes "5" ∷ codes "out" ∷ codes "--reach=1" ∷ codes "--pin"
-    ∷ codes "--members=0" ∷ []) ≡ Err Number
+pub no_members_pin_and_reach : route_out (codes "--reach=1" ∷ codes "--pin" ∷ codes "--members=0"
+    ∷ []) ≡ Err Number
 unfolding clap_on_literals
 no_members_pin_and_reach = refl
 
@@ -267,12 +240,16 @@ no_members_pin_and_reach = refl
 abbrev sweep : List Word → Asked
 sweep more = job_of (codes "sweep" ∷ codes "a" ∷ codes "n" ∷ codes "p" ∷ codes "r" ∷ more)
 
-pub sweeps : sweep (codes "8" ∷ codes "out" ∷ codes "--conflicts" ∷ codes "7" ∷ [])
-    ≡ Ok (Sweeps (record {
-      files = four_files;
-      search = told 8 (codes "out") 7 false;
-      members = None;
-    }))
+-- `sweep a n p r 8 out` and more words
+abbrev sweep_out : List Word → Asked
+sweep_out more = sweep (codes "8" ∷ codes "out" ∷ more)
+
+-- a sweep of the files a, n, p and r, by one search
+abbrev sweeps_by : SearchAsked → Asked
+sweeps_by search = Ok (Sweeps (record { files = four_files; search = search; members = None }))
+
+pub sweeps : sweep_out (codes "--conflicts" ∷ codes "7" ∷ [])
+    ≡ sweeps_by (told 8 (codes "out") 7 false)
 unfolding clap_on_literals
 sweeps = refl
 
@@ -286,12 +263,11 @@ pub sweeps_by_turns : sweep (codes "8" ∷ codes "out" ∷ codes "--seed=7" ∷ 
 unfolding clap_on_literals
 sweeps_by_turns = refl
 
-pub sweep_seed_alone : sweep (codes "8" ∷ codes "out" ∷ codes "--seed" ∷ codes "3" ∷ [])
-    ≡ Err Clash
+pub sweep_seed_alone : sweep_out (codes "--seed" ∷ codes "3" ∷ []) ≡ Err Clash
 unfolding clap_on_literals
 sweep_seed_alone = refl
 
-pub sweep_nine_members : sweep (codes "8" ∷ codes "out" ∷ codes "--members=9" ∷ []) ≡ Err Number
+pub sweep_nine_members : sweep_out (codes "--members=9" ∷ []) ≡ Err Number
 unfolding clap_on_literals
 sweep_nine_members = refl
 
@@ -311,23 +287,16 @@ pub sweep_writes_beside : job_of (codes "sweep" ∷ codes "a" ∷ codes "n" ∷ 
 unfolding clap_on_literals digits
 sweep_writes_beside = refl
 
-pub sweep_reaches : sweep (codes "8" ∷ codes "out" ∷ codes "--reach" ∷ codes "2" ∷ [])
-    ≡ Ok (Sweeps (record {
-      files = four_files;
-      search = record (told 8 (codes "out") 1_000_000 false) { method = Within 2 };
-      members = None;
-    }))
+pub sweep_reaches : sweep_out (codes "--reach" ∷ codes "2" ∷ [])
+    ≡ sweeps_by (record (told 8 (codes "out") 1_000_000 false) { method = Within 2 })
 unfolding clap_on_literals
 sweep_reaches = refl
 
-pub sweep_orders_and_reaches : sweep (codes "8" ∷ codes "out" ∷ codes "--symmetry"
-    ∷ codes "--reach=2" ∷ []) ≡ Err Clash
+pub sweep_orders_and_reaches : sweep_out (codes "--symmetry" ∷ codes "--reach=2" ∷ []) ≡ Err Clash
 unfolding clap_on_literals
 sweep_orders_and_reaches = refl
 
-pub sweep_pins_and_reaches : sweep (codes "8" ∷ codes "out" ∷ codes "--pin"
-    ∷ codes "--reach=2" ∷ [])
-    ≡ Err Clash
+pub sweep_pins_and_reaches : sweep_out (codes "--pin" ∷ codes "--reach=2" ∷ []) ≡ Err Clash
 unfolding clap_on_literals
 sweep_pins_and_reaches = refl
 
@@ -339,48 +308,35 @@ pub no_prefix : sweep (codes "8" ∷ []) ≡ Err Form
 unfolding clap_on_literals
 no_prefix = refl
 
-pub encode_keeps : job_of (codes "encode" ∷ codes "a" ∷ codes "n" ∷ codes "p" ∷ codes "r"
-    ∷ codes "5" ∷ codes "out" ∷ codes "--keep" ∷ []) ≡ Err Form
-unfolding clap_on_literals
-encode_keeps = refl
-
-pub encode_pins : job_of (codes "encode" ∷ codes "a" ∷ codes "n" ∷ codes "p" ∷ codes "r"
-    ∷ codes "5" ∷ codes "out" ∷ codes "--pin" ∷ [])
-    ≡ Ok (Encodes (record {
-      files = four_files;
-      width = 5;
-      prefix = codes "out";
-      method = Pinned;
-      names = false;
-    }))
-unfolding clap_on_literals
-encode_pins = refl
-
 -- `encode a n p r 5 out` and more words
 abbrev encode : List Word → Asked
 encode more = job_of (codes "encode" ∷ codes "a" ∷ codes "n" ∷ codes "p" ∷ codes "r"
     ∷ codes "5" ∷ codes "out" ∷ more)
 
-pub encode_reaches : encode (codes "--reach" ∷ codes "64" ∷ [])
-    ≡ Ok (Encodes (record {
-      files = four_files;
-      width = 5;
-      prefix = codes "out";
-      method = Within 64;
-      names = false;
-    }))
+-- the clauses by a method, and whether the variables are named
+abbrev encodes : (method : Method) → (names : Bool) → Asked
+encodes method names = Ok (Encodes (record {
+  files = four_files;
+  width = 5;
+  prefix = codes "out";
+  method = method;
+  names = names;
+}))
+
+pub encode_keeps : encode (codes "--keep" ∷ []) ≡ Err Form
+unfolding clap_on_literals
+encode_keeps = refl
+
+pub encode_pins : encode (codes "--pin" ∷ []) ≡ encodes Pinned false
+unfolding clap_on_literals
+encode_pins = refl
+
+pub encode_reaches : encode (codes "--reach" ∷ codes "64" ∷ []) ≡ encodes (Within 64) false
 unfolding clap_on_literals
 encode_reaches = refl
 
 -- the variables are named where that is asked for, but not within a reach
-pub encode_names : encode (codes "--names" ∷ codes "--symmetry" ∷ [])
-    ≡ Ok (Encodes (record {
-      files = four_files;
-      width = 5;
-      prefix = codes "out";
-      method = Ordered;
-      names = true;
-    }))
+pub encode_names : encode (codes "--names" ∷ codes "--symmetry" ∷ []) ≡ encodes Ordered true
 unfolding clap_on_literals
 encode_names = refl
 
@@ -388,14 +344,7 @@ pub encode_tells_no_numbers : encode (codes "--stats" ∷ []) ≡ Err Form
 unfolding clap_on_literals
 encode_tells_no_numbers = refl
 
-pub names_within : encode (codes "--names" ∷ codes "--reach=2" ∷ [])
-    ≡ Ok (Encodes (record {
-      files = four_files;
-      width = 5;
-      prefix = codes "out";
-      method = Within 2;
-      names = true;
-    }))
+pub names_within : encode (codes "--names" ∷ codes "--reach=2" ∷ []) ≡ encodes (Within 2) true
 unfolding clap_on_literals
 names_within = refl
 
@@ -437,55 +386,35 @@ abbrev core : List Word → Asked
 core more = job_of (codes "core" ∷ codes "a" ∷ codes "n" ∷ codes "p" ∷ codes "r"
     ∷ codes "5" ∷ codes "out" ∷ more)
 
+-- what it is asked without an option
+abbrev usual_core : CoreAsked
+usual_core = record {
+  files = four_files;
+  width = 5;
+  prefix = codes "out";
+  conflicts = 1_000_000;
+  seconds = None;
+  method = Strictly;
+  stats = false;
+}
+
 pub blames : core (codes "--conflicts" ∷ codes "7" ∷ [])
-    ≡ Ok (Blames (record {
-      files = four_files;
-      width = 5;
-      prefix = codes "out";
-      conflicts = 7;
-      seconds = None;
-      method = Strictly;
-      stats = false;
-    }))
+    ≡ Ok (Blames (record usual_core { conflicts = 7 }))
 unfolding clap_on_literals
 blames = refl
 
 pub blames_in_time : core (codes "--seconds=60" ∷ [])
-    ≡ Ok (Blames (record {
-      files = four_files;
-      width = 5;
-      prefix = codes "out";
-      conflicts = 1_000_000;
-      seconds = Some 60;
-      method = Strictly;
-      stats = false;
-    }))
+    ≡ Ok (Blames (record usual_core { seconds = Some 60 }))
 unfolding clap_on_literals
 blames_in_time = refl
 
 pub blames_with_numbers : core (codes "--stats" ∷ [])
-    ≡ Ok (Blames (record {
-      files = four_files;
-      width = 5;
-      prefix = codes "out";
-      conflicts = 1_000_000;
-      seconds = None;
-      method = Strictly;
-      stats = true;
-    }))
+    ≡ Ok (Blames (record usual_core { stats = true }))
 unfolding clap_on_literals
 blames_with_numbers = refl
 
 pub blames_in_order : core (codes "--symmetry" ∷ [])
-    ≡ Ok (Blames (record {
-      files = four_files;
-      width = 5;
-      prefix = codes "out";
-      conflicts = 1_000_000;
-      seconds = None;
-      method = Ordered;
-      stats = false;
-    }))
+    ≡ Ok (Blames (record usual_core { method = Ordered }))
 unfolding clap_on_literals
 blames_in_order = refl
 
@@ -510,37 +439,28 @@ checks = refl
 abbrev verify : List Word → Asked
 verify more = job_of (codes "verify" ∷ codes "a" ∷ codes "n" ∷ codes "p" ∷ codes "r" ∷ more)
 
-pub verifies : verify (codes "64" ∷ codes "f" ∷ [])
-    ≡ Ok (Verifies (record {
-      files = four_files;
-      width = 64;
-      routed = codes "f";
-      reach = None;
-      all = false;
-    }))
+-- the file f is judged at a width, within a reach or without, telling each cause or the first
+abbrev verified : (width : ℕ) → (reach : Option ℕ) → (all : Bool) → Asked
+verified width reach all = Ok (Verifies (record {
+  files = four_files;
+  width = width;
+  routed = codes "f";
+  reach = reach;
+  all = all;
+}))
+
+pub verifies : verify (codes "64" ∷ codes "f" ∷ []) ≡ verified 64 None false
 unfolding clap_on_literals
 verifies = refl
 
 pub verifies_within : verify (codes "5" ∷ codes "f" ∷ codes "--reach=64" ∷ [])
-    ≡ Ok (Verifies (record {
-      files = four_files;
-      width = 5;
-      routed = codes "f";
-      reach = Some 64;
-      all = false;
-    }))
+    ≡ verified 5 (Some 64) false
 unfolding clap_on_literals
 verifies_within = refl
 
 -- each cause is told where that is asked for, wherever the option stands
 pub verifies_all : verify (codes "--all" ∷ codes "5" ∷ codes "f" ∷ codes "--reach=64" ∷ [])
-    ≡ Ok (Verifies (record {
-      files = four_files;
-      width = 5;
-      routed = codes "f";
-      reach = Some 64;
-      all = true;
-    }))
+    ≡ verified 5 (Some 64) true
 unfolding clap_on_literals
 verifies_all = refl
 
@@ -606,65 +526,48 @@ bounds_a_width = refl
 abbrev global : List Word → Asked
 global more = job_of (codes "global" ∷ codes "a" ∷ codes "n" ∷ codes "p" ∷ more)
 
-pub negotiates : global (codes "5" ∷ codes "out" ∷ [])
-    ≡ Ok (Negotiates (record {
-      files = three_files;
-      width = 5;
-      prefix = codes "out";
-      free = false;
-      from = None;
-      rounds = 500;
-      seconds = None;
-      stats = false;
-    }))
+-- `global a n p 5 out` and more words
+abbrev global_out : List Word → Asked
+global_out more = global (codes "5" ∷ codes "out" ∷ more)
+
+-- what it is asked without an option
+abbrev usual_global : GlobalAsked
+usual_global = record {
+  files = three_files;
+  width = 5;
+  prefix = codes "out";
+  free = false;
+  from = None;
+  rounds = 500;
+  seconds = None;
+  stats = false;
+}
+
+pub negotiates : global_out [] ≡ Ok (Negotiates usual_global)
 unfolding clap_on_literals
 negotiates = refl
 
 pub negotiates_from : global (codes "5" ∷ codes "--from" ∷ codes "r" ∷ codes "out" ∷ codes "--free"
     ∷ codes "--rounds=100000" ∷ [])
-    ≡ Ok (Negotiates (record {
-      files = three_files;
-      width = 5;
-      prefix = codes "out";
+    ≡ Ok (Negotiates (record usual_global {
       free = true;
       from = Some (codes "r");
       rounds = 100_000;
-      seconds = None;
-      stats = false;
     }))
 unfolding clap_on_literals
 negotiates_from = refl
 
-pub negotiates_in_time : global (codes "5" ∷ codes "out" ∷ codes "--seconds=60" ∷ [])
-    ≡ Ok (Negotiates (record {
-      files = three_files;
-      width = 5;
-      prefix = codes "out";
-      free = false;
-      from = None;
-      rounds = 500;
-      seconds = Some 60;
-      stats = false;
-    }))
+pub negotiates_in_time : global_out (codes "--seconds=60" ∷ [])
+    ≡ Ok (Negotiates (record usual_global { seconds = Some 60 }))
 unfolding clap_on_literals
 negotiates_in_time = refl
 
-pub negotiates_with_numbers : global (codes "5" ∷ codes "out" ∷ codes "--stats" ∷ [])
-    ≡ Ok (Negotiates (record {
-      files = three_files;
-      width = 5;
-      prefix = codes "out";
-      free = false;
-      from = None;
-      rounds = 500;
-      seconds = None;
-      stats = true;
-    }))
+pub negotiates_with_numbers : global_out (codes "--stats" ∷ [])
+    ≡ Ok (Negotiates (record usual_global { stats = true }))
 unfolding clap_on_literals
 negotiates_with_numbers = refl
 
-pub negotiates_in_no_time : global (codes "5" ∷ codes "out" ∷ codes "--seconds=0" ∷ [])
-    ≡ Err Number
+pub negotiates_in_no_time : global_out (codes "--seconds=0" ∷ []) ≡ Err Number
 unfolding clap_on_literals
 negotiates_in_no_time = refl
 
@@ -673,11 +576,11 @@ pub negotiates_over : global (codes "5" ∷ codes "d" ∷ codes "--from=d.route"
 unfolding clap_on_literals
 negotiates_over = refl
 
-pub no_rounds : global (codes "5" ∷ codes "out" ∷ codes "--rounds=0" ∷ []) ≡ Err Number
+pub no_rounds : global_out (codes "--rounds=0" ∷ []) ≡ Err Number
 unfolding clap_on_literals
 no_rounds = refl
 
-pub too_many_rounds : global (codes "5" ∷ codes "out" ∷ codes "--rounds=100001" ∷ []) ≡ Err Number
+pub too_many_rounds : global_out (codes "--rounds=100001" ∷ []) ≡ Err Number
 unfolding clap_on_literals
 too_many_rounds = refl
 
@@ -689,46 +592,36 @@ no_global_prefix = refl
 abbrev least : List Word → Asked
 least more = job_of (codes "least" ∷ codes "a" ∷ codes "n" ∷ codes "p" ∷ more)
 
-pub narrows : least (codes "64" ∷ codes "out" ∷ [])
-    ≡ Ok (Narrows (record {
-      files = three_files;
-      last = 64;
-      prefix = codes "out";
-      free = false;
-      from = None;
-      rounds = 500;
-      seconds = None;
-      stats = false;
-    }))
+-- what `least a n p 64 out` asks
+abbrev usual_least : LeastAsked
+usual_least = record {
+  files = three_files;
+  last = 64;
+  prefix = codes "out";
+  free = false;
+  from = None;
+  rounds = 500;
+  seconds = None;
+  stats = false;
+}
+
+pub narrows : least (codes "64" ∷ codes "out" ∷ []) ≡ Ok (Narrows usual_least)
 unfolding clap_on_literals
 narrows = refl
 
 pub narrows_from : least (codes "--rounds" ∷ codes "7" ∷ codes "5" ∷ codes "out" ∷ codes "--free"
     ∷ codes "--from=r" ∷ [])
-    ≡ Ok (Narrows (record {
-      files = three_files;
+    ≡ Ok (Narrows (record usual_least {
       last = 5;
-      prefix = codes "out";
       free = true;
       from = Some (codes "r");
       rounds = 7;
-      seconds = None;
-      stats = false;
     }))
 unfolding clap_on_literals
 narrows_from = refl
 
 pub narrows_in_time : least (codes "--seconds" ∷ codes "1000000" ∷ codes "64" ∷ codes "out" ∷ [])
-    ≡ Ok (Narrows (record {
-      files = three_files;
-      last = 64;
-      prefix = codes "out";
-      free = false;
-      from = None;
-      rounds = 500;
-      seconds = Some 1_000_000;
-      stats = false;
-    }))
+    ≡ Ok (Narrows (record usual_least { seconds = Some 1_000_000 }))
 unfolding clap_on_literals
 narrows_in_time = refl
 
@@ -765,31 +658,33 @@ pub gen_keeps : gen (codes "1" ∷ codes "2" ∷ codes "1" ∷ codes "g" ∷ cod
 unfolding clap_on_literals
 gen_keeps = refl
 
-pub trial_pins : job_of (codes "trial" ∷ codes "1" ∷ codes "6" ∷ codes "30" ∷ codes "10"
-    ∷ codes "t" ∷ codes "--pin" ∷ []) ≡ Err Form
+-- `trial 1 6 30 10 t` and more words
+abbrev trial : List Word → Asked
+trial more = job_of (codes "trial" ∷ codes "1" ∷ codes "6" ∷ codes "30" ∷ codes "10" ∷ codes "t"
+    ∷ more)
+
+-- a trial of that problem
+abbrev tries_by : SearchAsked → Asked
+tries_by search = Ok (Tries (record {
+  recipe = record { seed = 1; side = 6; nets = 30 };
+  search = search;
+}))
+
+pub trial_pins : trial (codes "--pin" ∷ []) ≡ Err Form
 unfolding clap_on_literals
 trial_pins = refl
 
-pub tries : job_of (codes "trial" ∷ codes "1" ∷ codes "6" ∷ codes "30" ∷ codes "10" ∷ codes "t"
-    ∷ codes "--conflicts" ∷ codes "200" ∷ [])
-    ≡ Ok (Tries (record {
-      recipe = record { seed = 1; side = 6; nets = 30 };
-      search = told 10 (codes "t") 200 false;
-    }))
+pub tries : trial (codes "--conflicts" ∷ codes "200" ∷ [])
+    ≡ tries_by (told 10 (codes "t") 200 false)
 unfolding clap_on_literals
 tries = refl
 
-pub tries_counting : job_of (codes "trial" ∷ codes "1" ∷ codes "6" ∷ codes "30" ∷ codes "10"
-    ∷ codes "t" ∷ codes "--count" ∷ [])
-    ≡ Ok (Tries (record {
-      recipe = record { seed = 1; side = 6; nets = 30 };
-      search = record (told 10 (codes "t") 1_000_000 false) { count = true };
-    }))
+pub tries_counting : trial (codes "--count" ∷ [])
+    ≡ tries_by (record (told 10 (codes "t") 1_000_000 false) { count = true })
 unfolding clap_on_literals
 tries_counting = refl
 
-pub tries_counting_within : job_of (codes "trial" ∷ codes "1" ∷ codes "6" ∷ codes "30" ∷ codes "10"
-    ∷ codes "t" ∷ codes "--count" ∷ codes "--reach" ∷ codes "3" ∷ []) ≡ Err Clash
+pub tries_counting_within : trial (codes "--count" ∷ codes "--reach" ∷ codes "3" ∷ []) ≡ Err Clash
 unfolding clap_on_literals
 tries_counting_within = refl
 
@@ -797,11 +692,7 @@ pub encode_counts : encode (codes "--count" ∷ []) ≡ Err Form
 unfolding clap_on_literals
 encode_counts = refl
 
-pub tries_within : job_of (codes "trial" ∷ codes "1" ∷ codes "6" ∷ codes "30" ∷ codes "10"
-    ∷ codes "t" ∷ codes "--reach" ∷ codes "3" ∷ [])
-    ≡ Ok (Tries (record {
-      recipe = record { seed = 1; side = 6; nets = 30 };
-      search = record (told 10 (codes "t") 1_000_000 false) { method = Within 3 };
-    }))
+pub tries_within : trial (codes "--reach" ∷ codes "3" ∷ [])
+    ≡ tries_by (record (told 10 (codes "t") 1_000_000 false) { method = Within 3 })
 unfolding clap_on_literals
 tries_within = refl

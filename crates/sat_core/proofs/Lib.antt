@@ -13,6 +13,7 @@ pub mod InputLaws
 pub mod KeptLaws
 pub mod LearnLaws
 pub mod LearnedLaws
+pub mod LeftLaws
 pub mod LevelLaws
 pub mod ListLaws
 pub mod LogLemmas

@@ -1,6 +1,6 @@
 -- The clauses of a formula that a search has taken in: first those of two literals, then the
 -- others.
-use Rattle.std.specs.Prelude.{◌≡◌, ℕ, suc, ◌<◌, ◌≤◌, ◌==◌, ◌++◌, nat_lt, not, Bool, false, ◌&&◌, ◌||◌, if◌then◌else◌, [], ◌∷◌, length, slice_get, Option, None, Some}
+use Rattle.std.specs.Prelude.{◌≡◌, ℕ, suc, ◌<◌, ◌≤◌, ◌==◌, ◌++◌, nat_lt, not, Bool, true, false, ◌&&◌, ◌||◌, if◌then◌else◌, List, [], ◌∷◌, length, slice_get, Option, None, Some}
 use Rattle.sat_clause.specs.declared.limits.TheConstants.{ID_LIMIT, VARIABLE_LIMIT}
 use Rattle.sat_clause.specs.Formula.{Cnf}
 use Rattle.sat_clause.specs.Learned.{IsSimple}
@@ -9,7 +9,7 @@ use Rattle.sat_clause.specs.Live.{Live, clause_at, put}
 use Rattle.sat_arena.specs.declared.clause_ref.ClauseRef.{ClauseRef}
 use Rattle.sat_watch.specs.Watches.{Attaches, WatchState}
 use Rattle.sat_core.specs.ClauseList.{ClauseListState}
-use Rattle.sat_core.specs.Kept.{AreKept}
+use Rattle.sat_core.specs.Kept.{AreKept, is_always_true}
 use Rattle.sat_core.specs.SearchStore.{IsSearchStore, live_of}
 
 -- two literals of different variables
@@ -43,6 +43,18 @@ pub record HasTaken
   pub tells : (k : ℕ) →
       clause_at live (suc k) ≡ picked (picks k) (slice_get formula.clauses k)
   pub none_zero : clause_at live 0 ≡ None
+
+-- the clause at a position is a pair or always true, if there is one
+abbrev pub IsSettled : Cnf → ℕ → Type 0
+IsSettled formula k = (c : Clause) → slice_get formula.clauses k ≡ Some c →
+    is_pair c ≡ false → is_always_true c ≡ true
+
+-- these positions rise from one to the one before another, and those between them are settled
+abbrev pub AreLeft : Cnf → (from : ℕ) → List ℕ → (to : ℕ) → Type 0
+AreLeft formula from [] to = (k : ℕ) → from ≤ k → k < to → IsSettled formula k
+AreLeft formula from (i ∷ rest) to =
+    (from ≤ i) × (i < to) × ((k : ℕ) → from ≤ k → k < i → IsSettled formula k)
+    × AreLeft formula (suc i) rest to
 
 -- no clause of fewer than two literals
 abbrev pub no_singles : Cnf → ClauseListState

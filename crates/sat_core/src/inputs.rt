@@ -2,8 +2,9 @@
 //! stand one beside another in the arena, and then the others.
 
 ghost use Rattle.std.specs.Prelude.{All, ◌≡◌, ◌≤◌, ◌<◌, ◌+◌, [], length, slice_get, OnOk, IfOk, false, true, None, Some, suc};
+ghost use Rattle.sat_clause.specs.Formula.{Cnf};
 ghost use Rattle.sat_clause.specs.Literal.{IsWithin};
-ghost use Rattle.sat_core.specs.Inputs.{HasTaken, Keeps, MayKeep, is_pair as is_pair_of, no_singles, pairs_and_below, pairs_below};
+ghost use Rattle.sat_core.specs.Inputs.{AreLeft, HasTaken, Keeps, MayKeep, is_pair as is_pair_of, no_singles, pairs_and_below, pairs_below};
 ghost use Rattle.sat_core.specs.Kept.{is_always_true};
 
 use crate::clause_list::ClauseList;
@@ -14,16 +15,16 @@ use sat_clause::{Formula, ID_LIMIT, Lit};
 use sat_watch::Watches;
 use std::alloc::{AllocError, Global};
 
-/// How many words of the arena are for learned clauses at first.
+/// How many words of the arena are for learned clauses at first, and for what clauses have beyond
+/// two literals. Where there are more the arena grows.
 const SPARE_WORDS: u64 = 1048576;
 
-/// How many words the clauses of a formula take in an arena, with some for learned ones.
+/// How many words a clause of two literals takes in an arena.
+const PAIR_WORDS: u64 = 8;
+
+/// For how many words an arena gets room at first: most clauses of a formula have two literals.
 fn words_for(formula: &Formula) -> u64 {
-    let mut words = SPARE_WORDS;
-    for i in 0..formula.len() {
-        words = words.saturating_add(formula.clause(i).len() as u64 + 6);
-    }
-    words
+    u64::from(formula.len()) * PAIR_WORDS + SPARE_WORDS
 }
 
 /// Whether these are two literals of different variables.
@@ -66,28 +67,46 @@ fn keep(
     Ok(())
 }
 
+/// Puts the position of a clause that is no pair behind those of others, unless it is two literals
+/// that are always true.
+fn list_other(others: &mut Vec<u32>, lits: &[Lit], i: u32) -> Result<(), AllocError>
+    ensures { OnOk result ((formula : Cnf) → slice_get formula.clauses i ≡ Some lits.now
+        → AreLeft formula 0 others.old.items i → AreLeft formula 0 others.new.items (suc i)) }
+{
+    if are_two(lits) {
+        return Ok(());
+    }
+    others.push(i)?;
+    Ok(())
+}
+
 /// Attaches the clauses of a formula that are two literals of different variables, and counts
-/// these.
+/// these. Gives the positions of the others, but of those of two literals that are always true.
 fn attach_pairs(
+    alloc: Global,
     watches: &mut Watches,
     counts: &mut Occurrences,
     formula: &Formula,
-) -> Result<(), AllocError>
+) -> Result<Vec<u32>, AllocError>
     requires ids { length formula.now.cnf.clauses ≤ ID_LIMIT }
     requires none { HasTaken formula.now.cnf (pairs_below 0) (no_singles formula.now.cnf)
         watches.old }
-    ensures { OnOk result (HasTaken formula.now.cnf (pairs_below (length formula.now.cnf.clauses))
-        (no_singles formula.now.cnf) watches.new) }
+    ensures taken { OnOk result (HasTaken formula.now.cnf
+        (pairs_below (length formula.now.cnf.clauses)) (no_singles formula.now.cnf) watches.new) }
+    ensures left { IfOk result (λ others.
+        AreLeft formula.now.cnf 0 others.items (length formula.now.cnf.clauses)) }
 {
+    let mut others = Vec::new(alloc);
     for i in 0..formula.len() {
         let lits = formula.clause(i);
         if !is_pair(lits) {
+            list_other(&mut others, lits, i)?;
             continue;
         }
         counts.count(lits);
         watches.attach(lits, i + 1)?;
     }
-    Ok(())
+    Ok(others)
 }
 
 /// Keeps the different literals of a clause of a formula, which is no pair, unless it is always
@@ -123,23 +142,26 @@ fn keep_distinct(
     keep(watches, singles, distinct, i + 1)
 }
 
-/// Keeps the clauses of a formula that are no pairs, and counts their literals.
+/// Keeps the clauses of a formula at these positions, and counts their literals. The rest are pairs
+/// or always true.
 fn keep_others(
     alloc: Global,
     watches: &mut Watches,
     singles: &mut ClauseList,
     counts: &mut Occurrences,
     formula: &Formula,
+    others: &[u32],
 ) -> Result<(), AllocError>
     requires ids { length formula.now.cnf.clauses ≤ ID_LIMIT }
     requires pairs { HasTaken formula.now.cnf (pairs_and_below 0) singles.old watches.old }
     requires none { singles.old.clauses ≡ [] }
+    requires left { AreLeft formula.now.cnf 0 others.now (length formula.now.cnf.clauses) }
     ensures { OnOk result (HasTaken formula.now.cnf
         (pairs_and_below (length formula.now.cnf.clauses)) singles.new watches.new) }
 {
     let mut sorted = Vec::new(alloc);
     let mut distinct = Vec::new(alloc);
-    for i in 0..formula.len() {
+    for i in others {
         keep_distinct(
             watches,
             singles,
@@ -147,7 +169,7 @@ fn keep_others(
             &mut sorted,
             &mut distinct,
             formula,
-            i,
+            *i,
         )?;
     }
     Ok(())
@@ -160,7 +182,7 @@ pub(crate) struct Inputs {
     pub(crate) singles: ClauseList,
 }
 
-/// Takes the clauses of a formula in, and counts their literals. The arena gets room for them once.
+/// Takes the clauses of a formula in, and counts their literals.
 pub(crate) fn take_inputs(
     alloc: Global,
     formula: &Formula,
@@ -176,8 +198,8 @@ pub(crate) fn take_inputs(
     arena.reserve(words_for(formula))?;
     let mut watches = Watches::new(alloc, arena, formula.vars())?;
     let mut singles = ClauseList::new(alloc, formula.vars())?;
-    attach_pairs(&mut watches, counts, formula)?;
+    let others = attach_pairs(alloc, &mut watches, counts, formula)?;
     watches.make_tails(alloc);
-    keep_others(alloc, &mut watches, &mut singles, counts, formula)?;
+    keep_others(alloc, &mut watches, &mut singles, counts, formula, &others)?;
     Ok(Inputs { watches, singles })
 }

@@ -1,7 +1,7 @@
 -- What hints that were read, and that are needed, say of the clause that they are for.
-use Rattle.std.proofs.Common.{◌≡◌, ◌∙◌, ◌+◌, ◌<◌, ◌≤◌, ℕ, suc, ℤ, pos, List, [], ◌∷◌, ◌++◌, Any, None, Some, add-one, arith, drop, get_or, inl, inr, length, refl, sym}
+use Rattle.std.proofs.Common.{◌≡◌, ◌∙◌, ◌⊎◌, ◌+◌, ◌<◌, ◌≤◌, ℕ, suc, Bool, true, false, ℤ, pos, List, [], ◌∷◌, ◌++◌, Any, None, Some, add-one, arith, drop, get_or, inl, inr, length, refl, sym}
 use Rattle.std.specs.Ordering.{int_eq}
-use Rattle.std.specs.Prelude.{IsTrue}
+use Rattle.std.specs.Prelude.{IsTrue, ◌||◌}
 use Rattle.std.proofs.Math.Seq.{drop-cons}
 use Rattle.std.proofs.lemmas.Bool.{both_ways, or_cases}
 use Rattle.std.proofs.lemmas.List.{drop_all}
@@ -17,7 +17,7 @@ use Rattle.sat_clause.proofs.LiteralLaws.{among_contains}
 use Rattle.sat_clause.proofs.ReadingLaws.{follow_conflict, follow_unit}
 use Rattle.sat_check.specs.Finder.{Finder, Finds, named_by}
 use Rattle.sat_check.proofs.HintLaws.{named_found}
-use Rattle.sat_merge.specs.Needed.{AreMet, AreNeeded, AreRead, IsMeeting}
+use Rattle.sat_merge.specs.Needed.{AreMet, AreNeeded, AreRead, IsMeeting, MeetsSome}
 use Rattle.sat_merge.specs.Rewritten.{IsJustified}
 
 -- hints that are read lead to a conflict
@@ -102,6 +102,27 @@ module _ (find : Finder) (clauses : Live) (finds : Finds find clauses) (hints : 
         stands = stands-more clauses met (get_or hints i (pos 0)) (drop (suc i) hints) c there
             behind.stands;
       })
+
+or_true : (b : Bool) → (b || true) ≡ true
+or_true true = refl
+or_true false = refl
+
+-- it is enough to meet some of what is met
+pub meeting-some : (live : Live) (before clause met units : List Lit) (hints : List ℤ) →
+    MeetsSome before clause met → IsMeeting live (clause ++ before) units hints →
+    IsMeeting live met units hints
+meeting-some live before clause met units hints some all = record {
+  needed = all.needed;
+  stands = λ l is. all.stands l (among l (some l is));
+}
+  where
+    among : (l : Lit) → IsTrue (is_among clause l) ⊎ IsTrue (is_among before l) →
+        IsTrue (is_among (clause ++ before) l)
+    among l (inl here) =
+        list_any-append (λ (m : Lit). int_eq m.code l.code) clause before ∙ rw here refl
+    among l (inr there) =
+        list_any-append (λ (m : Lit). int_eq m.code l.code) clause before
+        ∙ rw there (or_true (is_among clause l))
 
 -- no hint is left, and nothing is met
 pub meeting-none : (clauses : Live) (units : List Lit) (hints : List ℤ) →

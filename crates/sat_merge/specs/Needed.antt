@@ -1,5 +1,5 @@
 -- Hints that lead to a false clause, and are needed for it.
-use Rattle.std.specs.Prelude.{◌≡◌, ℤ, List, [], ◌∷◌, All, Any, IsTrue, ⊤}
+use Rattle.std.specs.Prelude.{◌≡◌, ◌⊎◌, ℤ, List, [], ◌∷◌, All, Any, IsTrue, ⊤}
 use Rattle.sat_clause.specs.declared.literal.Lit.{Lit}
 use Rattle.sat_clause.specs.declared.reading.Reading.TheVariants.{Conflict, Unit}
 use Rattle.sat_clause.specs.Learned.{HintHas}
@@ -24,6 +24,11 @@ AreNeeded live (l ∷ units) (h ∷ hints) = Any (HintHas live (negation l)) hin
 -- each literal of the clause is among these
 abbrev pub AreMet : List Lit → Clause → Type 0
 AreMet met clause = All (λ l. IsTrue (is_among met l)) clause
+
+-- what is met now was met before, or is among the clause
+abbrev pub MeetsSome : (before : List Lit) → Clause → (now : List Lit) → Type 0
+MeetsSome before clause now = (l : Lit) → IsTrue (is_among now l) →
+    IsTrue (is_among clause l) ⊎ IsTrue (is_among before l)
 
 -- the hints are needed for their units, and what was met stands in their clauses
 pub record IsMeeting (live : Live) (met units : List Lit) (hints : List ℤ) : Type 0 where

@@ -36,13 +36,12 @@ fn go_down(
     representatives: &Representatives,
     variable: u32,
     falses: &mut FalseSet,
-    path: &mut Vec<u32>,
     hints: &mut Vec<i64>,
 ) -> Result<(), AllocError>
     requires { falses.old.size ≤ LITERAL_LIMIT }
     ensures { falses.new.size ≡ falses.old.size }
 {
-    path.clear();
+    let first = hints.len();
     let mut at = variable;
     for _ in 0..representatives.steps(variable) {
         if has_value(falses, at, true) {
@@ -51,16 +50,13 @@ fn go_down(
         let Some(implied) = representatives.get(at) else {
             break;
         };
-        path.push(at)?;
+        hints.push(implied.by as i64)?;
+        set_value(falses, at, true)?;
         at = implied.before;
     }
-    while let Some(next) = path.pop() {
-        let Some(implied) = representatives.get(next) else {
-            break;
-        };
-        hints.push(implied.by as i64)?;
-        set_value(falses, next, true)?;
-    }
+    // they were found from the last one back
+    let hints: &mut [i64] = hints;
+    hints[first..].reverse();
     Ok(())
 }
 
@@ -94,7 +90,6 @@ fn reach(
     representatives: &Representatives,
     l: Lit,
     falses: &mut FalseSet,
-    path: &mut Vec<u32>,
     hints: &mut Vec<i64>,
 ) -> Result<(), AllocError>
     requires { falses.old.size ≤ LITERAL_LIMIT }
@@ -111,7 +106,7 @@ fn reach(
         return Ok(());
     };
     if has_value(falses, representative, true) {
-        return go_down(representatives, variable, falses, path, hints);
+        return go_down(representatives, variable, falses, hints);
     }
     Ok(())
 }
@@ -156,7 +151,6 @@ fn expand_hint(
     clause: &[Lit],
     hint: i64,
     falses: &mut FalseSet,
-    path: &mut Vec<u32>,
     hints: &mut Vec<i64>,
 ) -> Result<(), AllocError>
     requires small { falses.old.size ≤ LITERAL_LIMIT }
@@ -164,7 +158,7 @@ fn expand_hint(
     ensures { falses.new.size ≡ falses.old.size }
 {
     for l in clause {
-        reach(representatives, *l, falses, path, hints)?;
+        reach(representatives, *l, falses, hints)?;
     }
     hints.push(hint)?;
     make_open_true(representatives, clause, falses, hints)
@@ -178,7 +172,6 @@ pub(crate) fn expand(
     clause: &[Lit],
     old: &[i64],
     falses: &mut FalseSet,
-    path: &mut Vec<u32>,
     hints: &mut Vec<i64>,
 ) -> Result<(), AllocError>
     requires small { falses.old.size ≤ LITERAL_LIMIT }
@@ -193,7 +186,7 @@ pub(crate) fn expand(
         let Some(named) = live.named(*hint) else {
             continue;
         };
-        expand_hint(representatives, named, *hint, falses, path, hints)?;
+        expand_hint(representatives, named, *hint, falses, hints)?;
     }
     Ok(())
 }

@@ -21,7 +21,6 @@ pub(crate) struct HintWriter {
     falses: FalseSet,
     met: FalseSet,
     units: Vec<Lit>,
-    path: Vec<u32>,
     hints: Vec<i64>,
 }
 
@@ -45,7 +44,6 @@ impl HintWriter {
             falses: FalseSet::new(alloc, vars)?,
             met: FalseSet::new(alloc, vars)?,
             units: Vec::new(alloc),
-            path: Vec::new(alloc),
             hints: Vec::new(alloc),
         })
     }
@@ -79,7 +77,6 @@ impl HintWriter {
             clause,
             old,
             &mut self.falses,
-            &mut self.path,
             &mut self.hints,
         );
         self.falses.clear();

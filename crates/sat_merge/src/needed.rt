@@ -1,12 +1,12 @@
 //! Whether hints justify a clause, and each of them is needed.
 
-ghost use Rattle.std.specs.Prelude.{◌≡◌, ◌≤◌, [], All, IfOk, IsTrue};
+ghost use Rattle.std.specs.Prelude.{◌≡◌, ◌≤◌, [], All, IfOk, IsTrue, OnOk};
 ghost use Rattle.sat_clause.specs.Literal.{IsWithin};
 ghost use Rattle.sat_clause.specs.Live.{Live};
 ghost use Rattle.sat_check.specs.FalseStore.{IsReady};
 ghost use Rattle.sat_check.specs.Finder.{Finds};
 ghost use Rattle.sat_check.specs.LiveStore.{live_at};
-ghost use Rattle.sat_merge.specs.Needed.{AreMet, AreRead, IsMeeting};
+ghost use Rattle.sat_merge.specs.Needed.{AreMet, AreRead, IsMeeting, MeetsSome};
 ghost use Rattle.sat_merge.specs.Rewritten.{IsJustified};
 
 use sat_check::{FalseSet, LiveClauses};
@@ -46,8 +46,23 @@ fn read_hints(
     Ok(false)
 }
 
+/// Puts the literals of a clause into the set, but for this one.
+fn meet_others(met: &mut FalseSet, clause: &[Lit], but: Lit) -> Result<(), AllocError>
+    requires within { All (IsWithin met.old.size) clause.now }
+    ensures size { met.new.size ≡ met.old.size }
+    ensures ok { OnOk result (MeetsSome met.old.set clause.now met.new.set) }
+{
+    for l in clause {
+        if *l != but {
+            met.put(*l)?;
+        }
+    }
+    Ok(())
+}
+
 /// Whether the negation of each unit stands in the clause of a hint behind the one at its place.
-/// The literals of the hints' clauses are put into the set, from the last hint back.
+/// The literals of the hints' clauses are put into the set, from the last hint back, but for the
+/// units, whose negations alone are looked for.
 fn meet_back(
     live: &LiveClauses,
     met: &mut FalseSet,
@@ -67,10 +82,14 @@ fn meet_back(
         let Some(clause) = live.named(hints[left]) else {
             return Ok(false);
         };
-        if left < units.len() && !met.is_false(units[left].negation()) {
+        if left >= units.len() {
+            met.put_all(clause)?;
+            continue;
+        }
+        if !met.is_false(units[left].negation()) {
             return Ok(false);
         }
-        met.put_all(clause)?;
+        meet_others(met, clause, units[left])?;
     }
     Ok(true)
 }

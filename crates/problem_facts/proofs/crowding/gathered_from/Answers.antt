@@ -1,5 +1,4 @@
-use Rattle.std.proofs.Common.{List, ℕ, subst, sym, ◌∙◌, ap, ◌++◌}
-use Rattle.route_encode.specs.Encoding.{below}
+use Rattle.std.proofs.Common.{List, ℕ, subst, sym}
 use Rattle.problem_facts.specs.Gathering.{AreWhole}
 use Rattle.problem_facts.proofs.CrowdLaws.{slots-whole}
 use Rattle.problem_facts.proofs.crowding.gathered_from.Goals as goal

@@ -1,4 +1,4 @@
-use Rattle.std.proofs.Common.{refl, sym, subst, arith, Ok, Err, ap, ◌∙◌}
+use Rattle.std.proofs.Common.{sym, subst, arith, Ok, Err, ap, ◌∙◌}
 use Rattle.route_sweep.specs.Found.{FindsShort}
 use Rattle.route_sweep.specs.declared.found.Found.TheVariants.{Routed, Spent}
 use Rattle.route_sweep.proofs.ClimbLemmas.{climb-ends, climb-goes-on, climb-is-over, climb-starts, refuted-climbs}
@@ -16,33 +16,21 @@ loop-width-preserved g c = (
 )
 
 pub returns-in-Ok-Routed-clause-climbs : goal.returns-in-Ok-Routed-clause-climbs
-returns-in-Ok-Routed-clause-climbs g c = (
-  c.loop-width.width,
-  Ok Routed,
-  refl,
-  climb-ends _ _ _ _ _ _ _ _ _ _ _ c.loop-width.invariant.2 c.one_width.ensures.finds _ _
-      (omega (arith, c.loop-width-test.true))
-      (c.in-Ok-Routed.is ∙ ap Ok c.in-Ok-Routed.field-0-is) (λ bad. absurd bad),
-)
+returns-in-Ok-Routed-clause-climbs g c =
+    climb-ends _ _ _ _ _ _ _ _ _ _ _ c.loop-width.invariant.2 c.one_width.ensures.finds _
+    (Ok Routed) (omega (arith, c.loop-width-test.true))
+    (c.in-Ok-Routed.is ∙ ap Ok c.in-Ok-Routed.field-0-is) (λ bad. absurd bad)
 
 pub returns-in-Ok-Spent-clause-climbs : goal.returns-in-Ok-Spent-clause-climbs
-returns-in-Ok-Spent-clause-climbs g c = (
-  c.loop-width.width,
-  Ok (Spent c.in-Ok-Spent.learned),
-  refl,
-  climb-ends _ _ _ _ _ _ _ _ _ _ _ c.loop-width.invariant.2 c.one_width.ensures.finds _ _
-      (omega (arith, c.loop-width-test.true))
-      (c.in-Ok-Spent.is ∙ ap Ok c.in-Ok-Spent.field-0-is) (λ bad. absurd bad),
-)
+returns-in-Ok-Spent-clause-climbs g c =
+    climb-ends _ _ _ _ _ _ _ _ _ _ _ c.loop-width.invariant.2 c.one_width.ensures.finds _
+    (Ok (Spent c.in-Ok-Spent.learned)) (omega (arith, c.loop-width-test.true))
+    (c.in-Ok-Spent.is ∙ ap Ok c.in-Ok-Spent.field-0-is) (λ bad. absurd bad)
 
 pub returns-in-Err-clause-climbs : goal.returns-in-Err-clause-climbs
-returns-in-Err-clause-climbs g c = (
-  c.loop-width.width,
-  Err c.in-Err.stop,
-  refl,
-  climb-ends _ _ _ _ _ _ _ _ _ _ _ c.loop-width.invariant.2 c.one_width.ensures.finds _ _
-      (omega (arith, c.loop-width-test.true)) c.in-Err.is (λ bad. absurd bad),
-)
+returns-in-Err-clause-climbs g c =
+    climb-ends _ _ _ _ _ _ _ _ _ _ _ c.loop-width.invariant.2 c.one_width.ensures.finds _
+    (Err c.in-Err.stop) (omega (arith, c.loop-width-test.true)) c.in-Err.is (λ bad. absurd bad)
 
 pub returns-clause-climbs : goal.returns-clause-climbs
 returns-clause-climbs g c =

@@ -25,10 +25,3 @@ returns-clause-serves c = λ p width formula known begun.
     subst (λ (w : Plain). CanSearch w) (sym c.plain_by-plain.ensures)
     (can-search (search_said search) (option_map members_said c.args.members)
     (said-turn c.args.members) search.affordable.0 search.affordable.1)
-
-pub returns-in-Within-clause-serves : goal.returns-in-Within-clause-serves
-returns-in-Within-clause-serves c = λ p width formula known begun.
-    let search = c.args.search.now in
-    subst (λ (w : Plain). CanSearch w) (sym c.plain_by-plain.ensures)
-    (can-search (search_said search) (option_map members_said c.args.members)
-    (said-turn c.args.members) search.affordable.0 search.affordable.1)

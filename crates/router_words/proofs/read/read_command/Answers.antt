@@ -33,17 +33,20 @@ forms Least = refl
 forms Gen = refl
 forms Trial = refl
 
--- the job of the words behind a name is that of the command with the name
-behind : (name : Word) (words : List Word) (row : CommandRow) → Some row ≡ command_named name
-    → job_behind name words ≡ command_job row words
-behind name words row is =
+-- the job of the words behind a name is that of the command with the name, if there is one
+behind : (name : Word) (words : List Word) (named : Option CommandRow) → named ≡ command_named name
+    → job_behind name words
+    ≡ option_map_or (λ command. command_job command words) named (Err Command)
+behind name words named is =
     ap (λ (o : Option CommandRow). option_map_or (λ command. command_job command words) o
     (Err Command)) (sym is)
 
-taken_job : (row : CommandRow) (words : List Word) (rows : List Row)
-    → IsTaken row.form words rows
-    → command_job row words ≡ and_then (row.job rows) unless_overwriting
-taken_job row words rows t = rw t.taken
+-- and where its form took the words, what it makes of them, unless that overwrites
+taken_job : (name : Word) (words : List Word) (row : CommandRow) → Some row ≡ command_named name
+    → (rows : List Row) → IsTaken row.form words rows
+    → (asked : Result JobAsked Refusal) → asked ≡ row.job rows
+    → job_behind name words ≡ and_then asked unless_overwriting
+taken_job name words row is rows t asked made = behind name words _ is ∙ rw (t.taken, made)
     (ap (λ (rows : List Row). and_then (row.job rows) unless_overwriting) (sym t.found))
 
 -- what is so is so behind any value
@@ -74,9 +77,7 @@ returns-in-Ok-job-clause-there c =
 
 pub returns-in_default-clause-answers : goal.returns-in_default-clause-answers
 returns-in_default-clause-answers c =
-    ap (λ (o : Option CommandRow). option_map_or
-    (λ command. command_job command (words_of c.args.words.now)) o (Err Command))
-    (sym c.in_default.ensures)
+    behind c.args.name.now (words_of c.args.words.now) _ c.in_default.ensures
 
 pub returns-in-Err-clause-answers : goal.returns-in-Err-clause-answers
 returns-in-Err-clause-answers c =
@@ -87,18 +88,12 @@ returns-in-Err-clause-answers c =
 
 pub returns-in-Ok-job-clause-answers : goal.returns-in-Ok-job-clause-answers
 returns-in-Ok-job-clause-answers c =
-    let words = words_of c.args.words.now in
-    let is = behind c.args.name.now words (row_of c.in-Some.command) c.in-Some.ensures
-    ∙ taken_job (row_of c.in-Some.command) words _ (rw c.in-Ok.ensures at c.in-Ok-take.ensures)
-    ∙ ap (λ (asked : Result JobAsked Refusal). and_then asked unless_overwriting)
-    (sym c.in-Ok-job.ensures) in
+    let is = taken_job c.args.name.now (words_of c.args.words.now) (row_of c.in-Some.command)
+    c.in-Some.ensures _ (rw c.in-Ok.ensures at c.in-Ok-take.ensures) _ c.in-Ok-job.ensures in
     subst (λ (asked : Result JobAsked Refusal). Answers asked c.kept_apart.result) (sym is)
     c.kept_apart.ensures
 
 pub returns-clause-answers : goal.returns-clause-answers
 returns-clause-answers c =
-    let words = words_of c.args.words.now in
-    behind c.args.name.now words (row_of c.in-Some.command) c.in-Some.ensures
-    ∙ taken_job (row_of c.in-Some.command) words _ (rw c.in-Ok.ensures at c.in-Ok-take.ensures)
-    ∙ ap (λ (asked : Result JobAsked Refusal). and_then asked unless_overwriting)
-    (sym c.in-Err-job.ensures)
+    taken_job c.args.name.now (words_of c.args.words.now) (row_of c.in-Some.command)
+    c.in-Some.ensures _ (rw c.in-Ok.ensures at c.in-Ok-take.ensures) _ c.in-Err-job.ensures

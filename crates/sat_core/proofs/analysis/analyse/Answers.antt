@@ -65,17 +65,6 @@ invariant_of-analysis c =
       current = c.level-level.ensures.value;
     }
 
-pub use_left_out-requires : goal.use_left_out-requires
-use_left_out-requires c =
-    let at = goal.at.use_left_out-requires c in
-    let a = begun at.After-meet_clause-least in
-    record {
-      known = known at.After-meet_clause-least;
-      size = (at_point at.After-point-point a).size;
-      on = on at.After-point-point a;
-      walking = c.find_implied.ensures.walking;
-    }
-
 pub returns-clause-analysed : goal.returns-clause-analysed
 returns-clause-analysed c =
     let at = goal.at.returns-clause-analysed c in
@@ -87,12 +76,3 @@ returns-clause-analysed c =
       current = λ some. c.use_left_out.ensures.point c.point-point.result some
           (c.point-point.ensures.point some);
     }
-
-pub returns-clause-walk_size : goal.returns-clause-walk_size
-returns-clause-walk_size c =
-    omega (
-      arith,
-      c.clear.ensures.size,
-      c.find_implied.ensures.walking.size,
-      c.use_left_out.ensures.goes_on.size,
-    )

@@ -1,26 +1,13 @@
-use Rattle.std.proofs.Common.{◌∙◌, sym, arith}
+use Rattle.std.proofs.Common.{◌∙◌, sym}
 use Rattle.sat_core.proofs.TrailPlaces.{has_some}
-use Rattle.sat_core.proofs.UseLaws.{pass_reason, walk_by, walk_goes, walk_on}
+use Rattle.sat_core.proofs.UseLaws.{pass_reason, walk_goes, walk_on}
 use Rattle.sat_core.proofs.analysis.pass.Goals as goal
-
-pub is_met-requires : goal.is_met-requires
-is_met-requires c =
-    let walk = c.requires.walk in
-    omega (arith, c.entry_at-entry.ensures.few, walk.size, walk.within)
 
 pub unreachable-requires : goal.unreachable-requires
 unreachable-requires c =
     has_some c.args.watches.now.trail c.args.place c.entry_at-entry.result
     c.entry_at-entry.ensures.at (pass_reason c.requires.walk c.requires.below)
     (sym c.clause.ensures ∙ c.in_default.is)
-
-pub use_entry-requires-clause-reason : goal.use_entry-requires-clause-reason
-use_entry-requires-clause-reason c =
-    (c.entry_at-entry.result, c.entry_at-entry.ensures.at, sym c.clause.ensures ∙ c.in-Some.is)
-
-pub returns-then-not-is_met-clause-walk : goal.returns-then-not-is_met-clause-walk
-returns-then-not-is_met-clause-walk c =
-    walk_by c.requires.walk c.requires.below (sym c.is_met.ensures ∙ c.if-not-is_met.true)
 
 pub returns-clause-goes_on : goal.returns-clause-goes_on
 returns-clause-goes_on c =

@@ -1,4 +1,4 @@
-use Rattle.std.proofs.Common.{◌∙◌, inl, inr, [], refl, sym, ap, arith}
+use Rattle.std.proofs.Common.{◌∙◌, inl, inr, [], refl, sym, ap}
 use Rattle.std.proofs.lemmas.List.{append-nil}
 use Rattle.sat_core.specs.Analysis.{HasLevel}
 use Rattle.sat_core.specs.Implied.{IsLeftOut}
@@ -30,16 +30,6 @@ module _ (c : After-use_entry) where
         under = left_out_low c.requires.walked p out e.level here;
       }
 
-pub entry_at-entry-requires : goal.entry_at-entry-requires
-entry_at-entry-requires c =
-    c.requires.walked.on c.place-place.result c.place-place.ensures.met
-
-pub is_left_out-requires : goal.is_left_out-requires
-is_left_out-requires c =
-    let walked = c.requires.walked in
-    let lt = walked.on c.place-place.result c.place-place.ensures.met in
-    omega (arith, lt, c.entry_at-entry.ensures.few, walked.size, walked.walking.size)
-
 pub unreachable-requires : goal.unreachable-requires
 unreachable-requires c =
     let p = c.place-place.result in
@@ -49,10 +39,6 @@ unreachable-requires c =
     c.entry_at-entry.result c.entry_at-entry.ensures.at
     (c.is_left_out.ensures.yes c.if-not-is_left_out.false)))
     (sym c.clause.ensures ∙ c.in_default.is)
-
-pub use_entry-requires-clause-reason : goal.use_entry-requires-clause-reason
-use_entry-requires-clause-reason c =
-    (c.entry_at-entry.result, c.entry_at-entry.ensures.at, sym c.clause.ensures ∙ c.in-Some.is)
 
 pub returns-then-not-is_left_out-clause-used : goal.returns-then-not-is_left_out-clause-used
 returns-then-not-is_left_out-clause-used c =

@@ -1,18 +1,9 @@
-use Rattle.std.proofs.Common.{◌∙◌, ◌++◌, refl, sym, ap}
+use Rattle.std.proofs.Common.{◌∙◌, ◌++◌, sym, ap}
 use Rattle.std.specs.List.{filter}
 use Rattle.sat_core.specs.Deletable.{is_deletable, places_of, refs_of}
-use Rattle.sat_core.proofs.DeletableLaws.{advances, first_is, deletable_rise, from_first, from_on, one_more}
+use Rattle.sat_core.proofs.DeletableLaws.{advances, deletable_rise, from_on, one_more}
 use Rattle.sat_core.proofs.choosing.find_candidates.Goals as goal
 use Rattle.sat_core.proofs.choosing.find_candidates.Goals.{then-is_deletable+in_ok-push, else-is_deletable}
-
-pub loop-next-init : goal.loop-next-init
-loop-next-init c =
-    let w = c.args.watches.now in
-    record {
-      next = λ d is. first_is w.clauses d (sym c.first-next.ensures.value ∙ is);
-      found =
-          rw (c.new-found.ensures.items, c.first-next.ensures.value, from_first w.clauses) refl;
-    }
 
 pub returns-in_err-push-clause-rising : goal.returns-in_err-push-clause-rising
 returns-in_err-push-clause-rising c =

@@ -1,29 +1,12 @@
-use Rattle.std.proofs.Common.{◌≡◌, ◌≢◌, ◌-◌, ◌∙◌, ℕ, false, None, slice_set, refl, ap, subst, sym, arith}
+use Rattle.std.proofs.Common.{◌≢◌, ◌-◌, ◌∙◌, ℕ, false, None, slice_set, ap, subst, arith}
 use Rattle.sat_clause.specs.Literal.{positive}
-use Rattle.sat_clause.specs.Trail.{IsClosed}
 use Rattle.sat_order.specs.Order.{OrderState}
-use Rattle.sat_watch.specs.Trail.{lits_of, value_in}
-use Rattle.sat_watch.specs.Watches.{WatchState, assumed}
+use Rattle.sat_watch.specs.Trail.{value_in}
+use Rattle.sat_watch.specs.Watches.{assumed}
 use Rattle.sat_core.specs.Ranking.{IsRanked, held_count}
-use Rattle.sat_core.proofs.DecideLaws.{is_none_none, is_some_some, none_is_open, variable_value}
-use Rattle.sat_core.proofs.RankingLaws.{held_fewer, none_held_closed, ranked_decided, ranked_taken}
+use Rattle.sat_core.proofs.DecideLaws.{is_some_some, variable_value}
+use Rattle.sat_core.proofs.RankingLaws.{held_fewer, ranked_decided, ranked_taken}
 use Rattle.sat_core.proofs.deciding.decide.Goals as goal
-
-pub loop-v-init : goal.loop-v-init
-loop-v-init c = record { ranked = c.requires.ranked; same = refl; few = omega arith }
-
-pub literal-l-requires-clause-some : goal.literal-l-requires-clause-some
-literal-l-requires-clause-some c = c.in-Some.ensures.best.variable.first
-
-pub literal-l-requires-clause-few : goal.literal-l-requires-clause-few
-literal-l-requires-clause-few c =
-    omega (
-      arith,
-      c.in-Some.ensures.best.variable.last,
-      c.loop-v.invariant.ranked.vars,
-      ap (λ (w : WatchState). w.vars) c.loop-v.invariant.same,
-      c.requires.few,
-    )
 
 pub value-requires : goal.value-requires
 value-requires c =
@@ -39,32 +22,6 @@ value-requires c =
         ),
       );
     }
-
-pub assume-requires-clause-within : goal.assume-requires-clause-within
-assume-requires-clause-within c =
-    let best = c.in-Some.ensures.best in (
-      omega (arith, best.variable.first, c.literal-l.ensures),
-      omega (arith, best.variable.last, c.loop-v.invariant.ranked.vars, c.literal-l.ensures),
-    )
-
-pub assume-requires-clause-open : goal.assume-requires-clause-open
-assume-requires-clause-open c =
-    let none : c.value.result ≡ None = is_none_none c.value.result c.if-is_none.ensures in
-    none_is_open c.loop-v.watches.trail c.literal-l.result (sym c.value.ensures.value ∙ none)
-
-pub assume-requires-clause-empty : goal.assume-requires-clause-empty
-assume-requires-clause-empty c =
-    ap (λ (w : WatchState). w.queued) c.loop-v.invariant.same ∙ c.requires.empty
-
-pub assume-requires-clause-quiet : goal.assume-requires-clause-quiet
-assume-requires-clause-quiet c =
-    ap (λ (w : WatchState). w.pending) c.loop-v.invariant.same ∙ c.requires.quiet
-
-pub returns-then-is_none-clause-decided : goal.returns-then-is_none-clause-decided
-returns-then-is_none-clause-decided c = λ _. (
-  c.literal-l.result,
-  c.assume.ensures ∙ ap (assumed c.literal-l.result) c.loop-v.invariant.same,
-)
 
 pub returns-then-is_none-clause-fewer : goal.returns-then-is_none-clause-fewer
 returns-then-is_none-clause-fewer c = λ _.
@@ -116,16 +73,3 @@ loop-v-smaller c =
     let fewer = held_fewer (c.loop-v.ranking).held (c.in-Some.v - 1)
     c.in-Some.ensures.best.held in
     omega (arith, fewer, ap (λ (x : OrderState). held_count x.held) c.in-Some.ensures.taken)
-
-pub returns-clause-ranked : goal.returns-clause-ranked
-returns-clause-ranked c = rw c.in_default.ensures.kept c.loop-v.invariant.ranked
-
-pub returns-clause-closed : goal.returns-clause-closed
-returns-clause-closed c = λ _.
-    let w = c.loop-v.watches in
-    subst (λ (s : WatchState). IsClosed s.vars (lits_of s.trail)) c.loop-v.invariant.same
-    (none_held_closed w.vars w.trail c.loop-v.ranking c.loop-v.invariant.ranked
-    c.in_default.ensures.none)
-
-pub returns-clause-same : goal.returns-clause-same
-returns-clause-same c = λ _. c.loop-v.invariant.same

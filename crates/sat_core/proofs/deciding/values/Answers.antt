@@ -4,7 +4,6 @@ use Rattle.std.specs.Prelude.{unwrap_or, vec_len}
 use Rattle.std.proofs.lemmas.List.{get_or_append_left, get_or_push}
 use Rattle.sat_clause.specs.Literal.{positive}
 use Rattle.sat_watch.specs.Trail.{value_in}
-use Rattle.sat_core.proofs.DecideLaws.{values_of}
 use Rattle.sat_core.proofs.deciding.values.Goals as goal
 
 -- the values so far and one more
@@ -15,12 +14,6 @@ read_more value values b n many front is k d within =
     below_more (λ j. get_or (values ++ b ∷ []) j d ≡ value j) n
     (λ j below. get_or_append_left values (b ∷ []) d j (omega arith) ∙ front j d below)
     (get_or_push values b d n many ∙ is) k within
-
-pub returns-clause-truth : goal.returns-clause-truth
-returns-clause-truth c =
-    values_of c.args.watches.now.trail c.args.vars c.loop-v.values.items
-    (λ k d below. c.loop-v.invariant.read k d (omega
-    (arith, below, c.loop-v.invariant.many, c.loop-v-test.false)))
 
 pub loop-v-preserved : goal.loop-v-preserved
 loop-v-preserved c =

@@ -1,6 +1,5 @@
 use Rattle.std.proofs.Common.{◌≡◌, ◌≢◌, ◌++◌, ◌∷◌, ◌∙◌, List, [], ℤ, length, ap, sym}
-use Rattle.std.proofs.lemmas.Bool.{both_ways, eq-eqb, eqb-true}
-use Rattle.std.proofs.lemmas.List.{nil_from_length}
+use Rattle.std.proofs.lemmas.Bool.{both_ways, eq-eqb}
 use Rattle.sat_clause.specs.Step.{Erased}
 use Rattle.sat_watch.specs.Delete.{OthersMove, deleted}
 use Rattle.sat_core.specs.Delete.{MayGo, ids_of}
@@ -41,9 +40,3 @@ returns-clause-erased c is_so =
       trail = trail_stays refs w now says.levels may.no_reason is others;
       step = said ∙ ap (λ (them : List ℤ). before ++ Erased c.args.own them ∷ []) ids_are;
     }
-
-pub returns-then-is_empty-clause-none : goal.returns-then-is_empty-clause-none
-returns-then-is_empty-clause-none c is_not =
-    let chosen = c.in_ok-deleted.deleted in
-    c.in_ok-deleted.ensures.none (nil_from_length chosen.items
-    (sym chosen.ok.0 ∙ eqb-true chosen.len 0 (sym c.is_empty.ensures ∙ c.if-is_empty.true)))

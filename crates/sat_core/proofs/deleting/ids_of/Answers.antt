@@ -1,13 +1,12 @@
 use mir.Syntax.{w64}
 use mir.Val.{SFits}
-use Rattle.std.proofs.Common.{◌≡◌, ◌∙◌, ◌+◌, ◌++◌, ◌∷◌, [], ℕ, ℤ, pos, List, Some, add-one, ap, refl, rules, slice_get, take, true}
+use Rattle.std.proofs.Common.{◌≡◌, ◌∙◌, ◌+◌, ◌++◌, ◌∷◌, [], ℕ, ℤ, pos, List, Some, add-one, ap, refl, rules, slice_get, take}
 use Rattle.std.proofs.lemmas.Int.{to_z-of_z}
 use Rattle.std.proofs.lemmas.List.{map-append}
-use Rattle.std.proofs.lemmas.List.Elements.{All-get_or}
 use Rattle.std.proofs.lemmas.Option.{slice_get-get_or}
 use Rattle.list_laws.proofs.Places.{take-get}
 use Rattle.sat_arena.specs.declared.clause_ref.ClauseRef.{ClauseRef}
-use Rattle.sat_watch.specs.Watches.{Attached, id_at, is_attached}
+use Rattle.sat_watch.specs.Watches.{Attached, id_at}
 use Rattle.sat_core.specs.Delete.{ids_of}
 use Rattle.sat_core.proofs.deleting.ids_of.Goals as goal
 
@@ -32,9 +31,3 @@ loop-c-preserved c =
     ∙ ids_next c.args.watches.now.clauses c.args.clauses.now c.loop-c.c-index _ _
     (slice_get-get_or c.args.clauses.now c.loop-c.c-index _ c.loop-c-test.true)
     c.loop-c.invariant
-
-pub id-requires : goal.id-requires
-id-requires c = record {
-  attached = All-get_or (λ r. is_attached c.args.watches.now.clauses r ≡ true) c.args.clauses.now
-      c.loop-c.c-index _ c.loop-c-test.true c.requires;
-}

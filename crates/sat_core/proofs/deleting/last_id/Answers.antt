@@ -1,7 +1,5 @@
 use Rattle.std.proofs.Common.{◌≡◌, ◌∙◌, ℕ, inl, inr, Some, reverse, slice_get, ap, sym, subst, arith}
 use Rattle.std.proofs.lemmas.Bool.{cases_eq}
-use Rattle.std.proofs.lemmas.List.{length-reverse}
-use Rattle.std.proofs.lemmas.Option.{slice_get_within}
 use Rattle.list_laws.proofs.Places.{some_is}
 use Rattle.sat_clause.specs.Literal.{Clause}
 use Rattle.sat_core.proofs.deleting.last_id.Goals as goal
@@ -22,10 +20,3 @@ loop-i-preserved c = record {
         omega (arith, low, c.max-last.ensures)
   ];
 }
-
-pub returns-clause-last : goal.returns-clause-last
-returns-clause-last c k id x at =
-    let list = c.args.clauses.now.clauses in
-    let within = slice_get_within (reverse list) k (id, x) at in
-    c.loop-i.invariant.last k id x
-    (omega (arith, within, length-reverse list, c.len-i-end.ensures, c.loop-i-test.false)) at

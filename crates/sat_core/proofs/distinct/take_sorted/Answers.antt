@@ -2,7 +2,7 @@ use Rattle.std.proofs.Common.{◌≡◌, ◌∙◌, ◌-◌, pos, get_or, length
 use Rattle.std.proofs.lemmas.Option.{get_or_from_slice_get, slice_get-get_or, slice_get_within}
 use Rattle.sat_clause.specs.declared.literal.Lit.{Lit}
 use Rattle.sat_clause.specs.Literal.{lit, variable}
-use Rattle.sat_core.proofs.DistinctLaws.{other_lit, same_lit, seen_all, seen_opposite, seen_push, seen_skip, seen_start}
+use Rattle.sat_core.proofs.DistinctLaws.{other_lit, same_lit, seen_all, seen_opposite, seen_push, seen_skip}
 use Rattle.sat_core.proofs.distinct.take_sorted.Goals as goal
 use Rattle.sat_core.proofs.distinct.take_sorted.Goals.{In-Some}
 
@@ -20,9 +20,6 @@ module _ (c : In-Some) where
         slice_get_within kept (length kept - 1) m (sym last),
         get_or_from_slice_get kept (length kept - 1) m m (sym last),
       )
-
-pub loop-l-init : goal.loop-l-init
-loop-l-init c = rw c.clear.ensures.items (seen_start c.args.sorted.now)
 
 pub loop-l-preserved-in_default : goal.loop-l-preserved-in_default
 loop-l-preserved-in_default c =

@@ -12,4 +12,4 @@ pub keep_others-requires-clause-pairs : goal.keep_others-requires-clause-pairs
 keep_others-requires-clause-pairs c =
     let cnf = c.args.formula.now.cnf in
     rw (c.in_ok-singles.ensures, c.vars-2.ensures.value, c.make_tails.ensures)
-    (pairs_all cnf (no_singles cnf) c.attach_pairs.new.watches c.in_ok-attach_pairs.ensures)
+    (pairs_all cnf (no_singles cnf) c.attach_pairs.new.watches c.in_ok-others.ensures.taken)

@@ -1,9 +1,8 @@
-use Rattle.std.proofs.Common.{sym, subst, arith}
+use Rattle.std.proofs.Common.{sym, subst}
 use Rattle.std.proofs.lemmas.Result.{IfOk-weaker}
 use Rattle.sat_core.specs.Analysis.{AreOn, IsAnalysed}
 use Rattle.sat_core.specs.Marks.{MarkState}
 use Rattle.sat_core.specs.Reading.{HasLearnedClause, IsFound}
-use Rattle.sat_core.proofs.TrailPlaces.{at_within}
 use Rattle.sat_core.proofs.UseLaws.{analysed_sorted, analysis_on}
 use Rattle.sat_core.proofs.learned.find_learned.Goals as goal
 
@@ -18,12 +17,6 @@ invariant_of-analysis c =
           (analysis_on met);
       current = c.level.ensures.value;
     }
-
-pub read-learned-requires-clause-point : goal.read-learned-requires-clause-point
-read-learned-requires-clause-point c some =
-    let at = (c.analyse-point.ensures.analysed.current
-    (omega (arith, some, c.level.ensures.value))).current in
-    at_within c.args.watches.now.trail c.analyse-point.result at.0 at.1
 
 pub returns-clause-found : goal.returns-clause-found
 returns-clause-found c =

@@ -16,10 +16,6 @@ at c e read =
     read_at c.trail.result.now c.args.watches.now.trail c.args.place e c.trail.ensures.value
     c.requires read
 
-pub returns-clause-at : goal.returns-clause-at
-returns-clause-at c =
-    at (goal.at.returns-clause-at c).After-trail c.index-trail-place.result c.index-trail-place.is
-
 pub returns-clause-within : goal.returns-clause-within
 returns-clause-within c =
     let w = c.args.watches.now in

@@ -3,9 +3,6 @@ use Rattle.sat_core.specs.Ranking.{SameHeld}
 use Rattle.sat_core.proofs.RankingLaws.{drawn_next, held_then}
 use Rattle.sat_core.proofs.ranking.draw_activities.Goals as goal
 
-pub next_draw-draw-requires : goal.next_draw-draw-requires
-next_draw-draw-requires c = c.loop-v.invariant.so_far.small
-
 pub loop-v-preserved : goal.loop-v-preserved
 loop-v-preserved c =
     let order = c.loop-v.order in

@@ -1,4 +1,4 @@
-use Rattle.std.proofs.Common.{◌+◌, refl, arith}
+use Rattle.std.proofs.Common.{◌+◌, arith}
 use Rattle.sat_order.proofs.LubyLaws.{term_most, term_some}
 use Rattle.sat_core.proofs.restarts.next_wait.Goals as goal
 
@@ -9,9 +9,6 @@ overflow_mul-result c =
       term_most (c.args.terms.now + 1) c.next-term.result c.next-term.ensures.term,
       c.requires,
     )
-
-pub returns-clause-wait : goal.returns-clause-wait
-returns-clause-wait c = (c.next-term.result, c.next-term.ensures.term, refl)
 
 pub returns-clause-some : goal.returns-clause-some
 returns-clause-some c =

@@ -31,10 +31,6 @@ returns-then-not-goes_on-clause-searched g c =
     searched c.loop.invariant.underway few c.loop.invariant.kept
     (left_open c.loop.invariant.underway few)
 
-pub delete_unless-requires-clause-underway : goal.delete_unless-requires-clause-underway
-delete_unless-requires-clause-underway g c =
-    (c.args.formula.now.cnf, c.loop.invariant.underway)
-
 pub returns-in_err-delete_unless-clause-searched : goal.returns-in_err-delete_unless-clause-searched
 returns-in_err-delete_unless-clause-searched g c =
     let at = (goal.at.returns-in_err-delete_unless-clause-searched g c).After-delete_unless in

@@ -1,4 +1,3 @@
-use Rattle.std.proofs.Common.{length}
 use Rattle.problem_facts.proofs.SlotCells.{all-there}
 use Rattle.problem_facts.proofs.facts.Facts.of.Goals as goal
 

@@ -3,12 +3,8 @@ use Rattle.std.proofs.Common.{◌≡◌, ◌+◌, ◌++◌, ◌∷◌, [], ◌�
 use Rattle.std.proofs.lemmas.List.{take_more}
 use Rattle.sat_clause.specs.declared.literal.Lit.{Lit}
 use Rattle.sat_clause.specs.Literal.{Clause, lit}
-use Rattle.sat_core.proofs.AnalysisLaws.{either_place, none_front}
+use Rattle.sat_core.proofs.AnalysisLaws.{either_place}
 use Rattle.sat_core.proofs.analysis.Analysis.are_covered.Goals as goal
-
-pub loop-l-init : goal.loop-l-init
-loop-l-init c place is = absurd (none_front c.args.self.now.watches.now.trail c.args.lits.now
-    place is)
 
 pub loop-l-preserved : goal.loop-l-preserved
 loop-l-preserved c =

@@ -1,4 +1,4 @@
-use Rattle.std.proofs.Common.{◌≡◌, ◌<◌, ◌∙◌, ◌++◌, ◌∷◌, [], List, ℕ, get_or, take, AllPairs, sym, ap, subst, arith}
+use Rattle.std.proofs.Common.{◌≡◌, ◌<◌, ◌∙◌, ◌++◌, ◌∷◌, [], List, ℕ, get_or, take, AllPairs, sym, ap, subst}
 use Rattle.std.proofs.lemmas.Bool.{both_ways}
 use Rattle.std.proofs.lemmas.List.{take_more}
 use Rattle.sat_clause.specs.declared.literal.Lit.{Lit}
@@ -42,11 +42,6 @@ entry_at-entry-requires c =
     c.args.self.now.on (get_or items c.loop-place.place-index 0)
     (listed_met c.places-place-items.ensures.marks items c.loop-place.place-index
     c.places-place-items.ensures.value c.loop-place-test.true)
-
-pub negation-requires : goal.negation-requires
-negation-requires c =
-    let within = c.entry_at-entry.ensures.within in
-    (within.0, omega (arith, within.1, c.args.self.now.few))
 
 pub loop-place-preserved : goal.loop-place-preserved
 loop-place-preserved c =

@@ -1,18 +1,8 @@
-use Rattle.std.proofs.Common.{◌∙◌, sym, subst, arith}
+use Rattle.std.proofs.Common.{◌∙◌, sym, subst}
 use Rattle.sat_clause.specs.Literal.{Clause}
 use Rattle.sat_core.specs.Implied.{IsCovered}
 use Rattle.sat_core.proofs.ImpliedLaws.{implied_marked}
 use Rattle.sat_core.proofs.analysis.Analysis.settle.Goals as goal
-
-pub mark-requires : goal.mark-requires
-mark-requires c =
-    omega (
-      arith,
-      c.entry_at-entry.ensures.few,
-      c.requires.on,
-      c.args.self.now.size,
-      c.requires.walking.size,
-    )
 
 pub returns-clause-walking : goal.returns-clause-walking
 returns-clause-walking c =

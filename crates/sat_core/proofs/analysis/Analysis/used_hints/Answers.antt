@@ -4,13 +4,8 @@ use Rattle.std.proofs.Common.{rules, ◌∙◌, ◌++◌, List, ℤ, sym, ap}
 use Rattle.std.proofs.lemmas.Int.{to_z-of_z}
 use Rattle.std.proofs.lemmas.List.{append-nil}
 use Rattle.sat_core.specs.Reading.{hint_at}
-use Rattle.sat_core.proofs.MarksLaws.{listed_met, pieces_more}
+use Rattle.sat_core.proofs.MarksLaws.{pieces_more}
 use Rattle.sat_core.proofs.analysis.Analysis.used_hints.Goals as goal
-
-pub hint_of-requires : goal.hint_of-requires
-hint_of-requires c =
-    listed_met c.places-place-items.ensures.marks c.places-place-items.result.now
-    c.loop-place.place-index c.places-place-items.ensures.value c.loop-place-test.true
 
 pub loop-place-preserved-in_default : goal.loop-place-preserved-in_default
 loop-place-preserved-in_default c =

@@ -15,19 +15,6 @@ module _ (c : After-meet) where
       (subst (λ (t : WalkState). get_or t.marks.met c.args.place false ≡ false)
       (sym c.self.view_is) c.requires.new)
 
-pub push_reserved-requires : goal.push_reserved-requires
-push_reserved-requires c =
-    let at = (goal.at.push_reserved-requires c).After-meet in
-    omega (
-      arith,
-      room at,
-      more at,
-      c.meet.ensures.few,
-      c.meet.ensures.meets.size,
-      c.self.invariant.room,
-      c.self.inside.visits.ok.0,
-    )
-
 pub push_reserved-requires-2 : goal.push_reserved-requires-2
 push_reserved-requires-2 c =
     let at = (goal.at.push_reserved-requires-2 c).After-meet in
@@ -63,11 +50,3 @@ invariant_of-self c =
         c.push_reserved-2.ensures.capacity,
       );
     }
-
-pub returns-clause-more : goal.returns-clause-more
-returns-clause-more c =
-    subst (λ (t : WalkState). length t.marks.places < length c.meet.new.self.places)
-    c.self.view_is (more (goal.at.returns-clause-more c).After-meet)
-
-pub returns-clause-few : goal.returns-clause-few
-returns-clause-few c = c.meet.ensures.few

@@ -32,10 +32,6 @@ module _ (c : After-is_restart_due) where
         ap (λ (v : SearchValue). v.added) c.is_restart_due.ensures,
       )
 
-pub delete-requires : goal.delete-requires
-delete-requires c =
-    ap (λ (s : SearchAt). s.taken) c.self.view_is ∙ c.requires.underway.1.all_taken
-
 pub returns-in_err-delete-clause-underway : goal.returns-in_err-delete-clause-underway
 returns-in_err-delete-clause-underway c formula before =
     let at = (goal.at.returns-in_err-delete-clause-underway c).After-is_restart_due in

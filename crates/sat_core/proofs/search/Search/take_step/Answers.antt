@@ -1,22 +1,8 @@
-use Rattle.std.proofs.Common.{◌≡◌, add-one, subst, sym}
-use Rattle.sat_core.specs.Levels.{level_of}
+use Rattle.std.proofs.Common.{add-one, subst, sym}
 use Rattle.sat_core.specs.Stands.{SearchAt}
 use Rattle.sat_core.specs.Underway.{MayTurn}
-use Rattle.sat_core.proofs.TurnLaws.{may_next, step_few, step_simple}
+use Rattle.sat_core.proofs.TurnLaws.{may_next, step_few}
 use Rattle.sat_core.proofs.search.Search.take_step.Goals as goal
-
-pub take-requires-clause-level : goal.take-requires-clause-level
-take-requires-clause-level c =
-    subst (λ (s : SearchAt). level_of s.value.trail ≡ 0) (sym c.self.view_is) c.requires.level
-
-pub take-requires-clause-simple : goal.take-requires-clause-simple
-take-requires-clause-simple c =
-    let log = c.args.log.now.steps in
-    let step = c.step-step.result in
-    let formula = c.requires.may.0 in
-    let may = subst (λ (s : SearchAt). MayTurn s formula log) (sym c.self.view_is)
-    c.requires.may.1 in
-    step_simple may step.erase step.id step.lits.now step.hints.now c.step-step.ensures.value
 
 pub take-requires-clause-few : goal.take-requires-clause-few
 take-requires-clause-few c =

@@ -8,10 +8,6 @@ use Rattle.sat_core.proofs.ModelLemmas.{if_ok_both}
 use Rattle.sat_core.proofs.SearchLaws.{true_values}
 use Rattle.sat_core.proofs.state.SearchState.model.Goals as goal
 
-pub values-requires-clause-vars : goal.values-requires-clause-vars
-values-requires-clause-vars c =
-    c.requires.vars ∙ ap (λ (s : SearchValue). s.vars) (sym c.self.view_is)
-
 pub returns : goal.returns
 returns c =
     let p = c.self.inside in

@@ -1,4 +1,4 @@
-use Rattle.std.proofs.Common.{◌≡◌, ◌+◌, ◌∙◌, Ok, length, add-one, ap, subst, sym, inl, inr, arith}
+use Rattle.std.proofs.Common.{◌≡◌, ◌+◌, Ok, length, add-one, ap, subst, sym, inl, inr, arith}
 use Rattle.sat_clause.specs.Trail.{IsClosed}
 use Rattle.sat_core.specs.SearchStore.{IsSearchStore, IsSearching}
 use Rattle.sat_core.specs.Start.{IsTaken}
@@ -52,33 +52,6 @@ attach_at_start-requires-clause-level c =
       | inr low ↦ low
     ]
 
-pub attach_at_start-requires-clause-leveled : goal.attach_at_start-requires-clause-leveled
-attach_at_start-requires-clause-leveled c = c.loop-self.invariant.searching.store.leveled
-
-pub attach_at_start-requires-clause-stand : goal.attach_at_start-requires-clause-stand
-attach_at_start-requires-clause-stand c = c.loop-self.invariant.searching.store.keeps.stand
-
-pub attach_at_start-requires-clause-quiet : goal.attach_at_start-requires-clause-quiet
-attach_at_start-requires-clause-quiet c = c.loop-self.invariant.searching.store.none_pending
-
-pub invariant_of-self : goal.invariant_of-self
-invariant_of-self c =
-    rw c.in_err-attach_at_start.ensures.err c.loop-self.invariant.searching
-
-pub find_learned-requires-clause-few : goal.find_learned-requires-clause-few
-find_learned-requires-clause-few c =
-    let is = unchanged (goal.at.find_learned-requires-clause-few c).Then-not-branch in
-    is.store.few_vars
-
-pub find_learned-requires-clause-vars : goal.find_learned-requires-clause-vars
-find_learned-requires-clause-vars c =
-    let is = unchanged (goal.at.find_learned-requires-clause-vars c).Then-not-branch in
-    is.ranked.vars
-
-pub find_learned-requires-clause-ready : goal.find_learned-requires-clause-ready
-find_learned-requires-clause-ready c =
-    let is = unchanged (goal.at.find_learned-requires-clause-ready c).Then-not-branch in is.ready
-
 pub find_learned-requires-clause-within : goal.find_learned-requires-clause-within
 find_learned-requires-clause-within c =
     let is = unchanged (goal.at.find_learned-requires-clause-within c).Then-not-branch in
@@ -103,11 +76,6 @@ pub invariant_of-self-then-not-branch : goal.invariant_of-self-then-not-branch
 invariant_of-self-then-not-branch c =
     searching_held (unchanged (goal.at.invariant_of-self-then-not-branch c).Then-not-branch)
     c.in_ok-learned.ensures.ready c.in_ok-learned.ensures.held
-
-pub returns-then-not-branch-clause-same : goal.returns-then-not-branch-clause-same
-returns-then-not-branch-clause-same c =
-    rw (← c.self.view_is, c.in_ok-attach_at_start.ensures.same (ap Ok c.if-not-branch.true))
-    c.loop-self.invariant.same
 
 pub returns-then-not-branch-clause-learned : goal.returns-then-not-branch-clause-learned
 returns-then-not-branch-clause-learned c =
@@ -134,9 +102,6 @@ loop-self-preserved c =
           (kept_taken taken was.store c.get-waiting.ensures.at c.get-waiting.ensures.found simple);
     }
 
-pub loop-self-smaller : goal.loop-self-smaller
-loop-self-smaller c = omega (arith, c.loop-self-test.true, c.len.ensures)
-
 pub invariant_of-self-in_default : goal.invariant_of-self-in_default
 invariant_of-self-in_default c =
     let was = c.loop-self.invariant.searching in
@@ -161,17 +126,6 @@ pub returns-in_default-clause-closed : goal.returns-in_default-clause-closed
 returns-in_default-clause-closed c =
     let now = c.decide_on.new.watches in
     subst (IsClosed now.vars) (sym (lits_in now.clauses now.trail)) c.in_default.ensures.closed
-
-pub find_learned-requires-2-clause-few : goal.find_learned-requires-2-clause-few
-find_learned-requires-2-clause-few c =
-    rw c.in-Some.ensures.goes.vars c.loop-self.invariant.searching.store.few_vars
-
-pub find_learned-requires-2-clause-vars : goal.find_learned-requires-2-clause-vars
-find_learned-requires-2-clause-vars c = c.in-Some.ensures.ranked.vars
-
-pub find_learned-requires-2-clause-ready : goal.find_learned-requires-2-clause-ready
-find_learned-requires-2-clause-ready c =
-    rw c.in-Some.ensures.goes.vars c.loop-self.invariant.searching.ready
 
 pub find_learned-requires-2-clause-current : goal.find_learned-requires-2-clause-current
 find_learned-requires-2-clause-current c =
@@ -205,13 +159,6 @@ returns-clause-learned c =
     let is = c.in-Some.ensures.conflict in
     attached_learned searching.store c.in-Some.c is.0 is.1
     (rw (c.lits-lits.ensures.value, c.id-id.ensures.value) at c.in_ok-learned-2.ensures.found)
-
-pub decide_on-requires-clause-few : goal.decide_on-requires-clause-few
-decide_on-requires-clause-few c = c.loop-self.invariant.searching.store.few_vars
-
-pub decide_on-requires-clause-vars : goal.decide_on-requires-clause-vars
-decide_on-requires-clause-vars c =
-    c.vars-vars.ensures.value ∙ c.loop-self.invariant.searching.store.same_vars
 
 pub returns-in_err-learned-2-clause-same : goal.returns-in_err-learned-2-clause-same
 returns-in_err-learned-2-clause-same c =

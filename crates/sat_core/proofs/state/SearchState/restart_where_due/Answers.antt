@@ -7,9 +7,6 @@ use Rattle.sat_core.proofs.state.SearchState.restart_where_due.Goals as goal
 pub returns-then-not-is_due : goal.returns-then-not-is_due
 returns-then-not-is_due c = rw (← c.self.view_is) (kept_refl c.self.invariant.store)
 
-pub invariant_of-self : goal.invariant_of-self
-invariant_of-self c = c.self.invariant
-
 pub invariant_of-self-2 : goal.invariant_of-self-2
 invariant_of-self-2 c =
     let p = c.self.inside in
