@@ -110,7 +110,7 @@ impl Board {
     fn go_round(&mut self, count: u32, most: u32) -> Result<bool, AllocError> {
         let mut stuck = 0u32;
         for _ in 0..(count as u64).saturating_mul(most as u64 + 1) {
-            let Some(tree) = self.choices.next() else {
+            let Some(tree) = self.choices.next()? else {
                 return Ok(true);
             };
             if !self.give(tree)? {

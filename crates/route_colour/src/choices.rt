@@ -110,16 +110,25 @@ impl Choices {
         Ok(())
     }
 
-    /// The tree without a track whose wish is most urgent.
-    pub fn next(&mut self) -> Option<u32> {
-        for _ in 0..self.wishes.len() {
-            let wish = self.wishes.pop()?;
+    /// The tree without a track whose wish is most urgent. A wish that is less urgent by now, since
+    /// the tree was given tracks back, is noted anew.
+    ///
+    /// # Errors
+    /// Where memory is short.
+    pub fn next(&mut self) -> Result<Option<u32>, AllocError> {
+        for _ in 0..self.wishes.len().saturating_mul(2) {
+            let Some(wish) = self.wishes.pop() else {
+                return Ok(None);
+            };
             let tree = self.tree(wish.tree);
-            if tree.given.is_none() && tree.urgency() == wish.urgency {
-                return Some(wish.tree);
+            if tree.given.is_none() {
+                if tree.urgency() == wish.urgency {
+                    return Ok(Some(wish.tree));
+                }
+                self.wish(wish.tree)?;
             }
         }
-        None
+        Ok(None)
     }
 
     /// Gives a tree a track that is left to it: the one that it had last, or else the lowest.
@@ -209,13 +218,16 @@ impl Choices {
         Ok(())
     }
 
-    /// Gives back what was lost, but for so many losses.
+    /// Gives back what was lost, but for so many losses. A tree that had none left is more urgent
+    /// than its wishes say.
     fn give_back(&mut self, losses: usize) -> Result<(), AllocError> {
         for _ in losses..self.losses.len() {
             if let Some(Loss { tree, left }) = self.losses.pop() {
                 let was = self.tree(tree);
                 self.set(tree, Tree { left, ..was });
-                self.wish(tree)?;
+                if was.left == 0 {
+                    self.wish(tree)?;
+                }
             }
         }
         Ok(())

@@ -1,21 +1,17 @@
 -- Whether a line of a route is refused does not depend on the numbers of its lines.
-use Rattle.std.proofs.Common.{◌≡◌, ℕ, ◌+◌, Bool, true, false, Option, Some, None, List, [], ◌∷◌, ◌++◌, refl, sym, ap, subst, ◌∙◌, inl, inr}
-use Rattle.std.specs.Prelude.{bytes_eq, map, not, option_map, ◌&&◌, ◌||◌, ◌==◌, if◌then◌else◌}
+use Rattle.std.proofs.Common.{arith, ◌≡◌, ℕ, Bool, false, Option, Some, None, List, [], ◌∷◌, ◌++◌, refl, sym, ap, subst, ◌∙◌, inl, inr}
+use Rattle.std.specs.Prelude.{bytes_eq, map, not, option_map, ◌&&◌, ◌||◌, ◌==◌}
 use Rattle.std.specs.List.{last_or, list_all, list_any}
-use Rattle.std.specs.Option.{option_map_or, option_or}
+use Rattle.std.specs.Option.{option_map_or}
 use Rattle.std.proofs.lemmas.List.{length-map, map-append}
-use Rattle.fpga_text.specs.declared.fault.TextFault.TheVariants.{Bad, Limit}
-use Rattle.fpga_types.specs.Fit.{RouteLine, comes_again, context_of, is_again, is_out_of_order, is_pin_of, leaps, line_number, net_lines, on_elem, route_lines, same_elem, same_pin, splits, starts_loose}
-use Rattle.fpga_types.specs.Fits.{Device, ProblemContext, device_of, has_sink, is_off, is_other_pin, is_other_sink, is_other_source, is_pin_apart, is_repeated, is_sink_not_once, is_unknown, lacks_sink, net_line_fault, problem_context, so_far}
-use Rattle.fpga_types.specs.Kinds.{is_channel, is_ipin, is_opin, is_sink}
+use Rattle.fpga_types.specs.Fit.{RouteLine, comes_again, context_of, is_again, is_out_of_order, is_pin_of, leaps, net_lines, route_lines, splits, starts_loose}
+use Rattle.fpga_types.specs.Fits.{Device, ProblemContext, device_of, has_sink, is_other_pin, is_other_sink, is_other_source, is_pin_apart, is_repeated, is_sink_not_once, is_unknown, lacks_sink, net_line_fault, problem_context, so_far}
+use Rattle.fpga_types.specs.Kinds.{is_sink}
 use Rattle.fpga_types.specs.Problem.{RoutingProblem}
-use Rattle.fpga_types.specs.Slots.{elem_cell, elem_pin, pin_at}
+use Rattle.fpga_types.specs.Slots.{elem_pin}
 use Rattle.fpga_types.specs.Terminals.{is_input, is_terminal, sinks_named}
-use Rattle.fpga_types.specs.declared.limits.TheConstants.{SLOT_LIMIT}
 use Rattle.fpga_types.specs.declared.problem.Terminal.{Terminal}
 use Rattle.fpga_types.specs.declared.route.Elem.{Elem}
-use Rattle.fpga_types.specs.declared.route.ElemKind.{ElemKind}
-use Rattle.fpga_types.specs.declared.route.ElemKind.TheVariants.{Source, Opin, ChanX, ChanY, Ipin, Sink}
 use Rattle.fpga_types.specs.declared.route.RouteNet.{RouteNet}
 use Rattle.fpga_types.specs.declared.route.RouteText.{RouteText}
 use Rattle.fpga_route.specs.ReadBack.{elem_without_line, net_without_lines, without_lines}
@@ -41,34 +37,7 @@ pub record IsClean (device : Device) (at : ProblemContext) : Type 0 where
 -- such a line is refused for the slots alone
 pub clean-fault : (p : RoutingProblem) (line : RouteLine) →
     IsClean (device_of p) (problem_context p line) → IsForSlots (net_line_fault p line)
-clean-fault p line c =
-    subst IsForSlots (sym computed)
-    (go (on_elem (λ e. is_channel e.kind && not (context_of line).again && (context_of line).full)
-    (context_of line)))
-  where
-    n : ℕ
-    n = line_number line
-
-    past : Bool
-    past = on_elem (λ e. is_channel e.kind && not (context_of line).again
-        && (context_of line).full) (context_of line)
-
-    computed : net_line_fault p line ≡ option_or (option_map (λ m. Limit 515 m)
-        (if past then Some (SLOT_LIMIT + 1) else None)) None
-    computed =
-        (λ i. option_or (if c.known i then Some (Bad n 503) else if c.first i then Some (Bad n 504)
-        else if c.source i then Some (Bad n 505) else if c.sink i then Some (Bad n 506)
-        else if c.once i then Some (Bad n 507) else if c.pin i then Some (Bad n 508)
-        else if c.near i then Some (Bad n 509) else None)
-        (if c.meets i then Some (Bad n 510) else if c.new i then Some (Bad n 511)
-        else if c.joined i then Some (Bad n 512) else if c.alone i then Some (Bad n 513)
-        else if c.order i then Some (Bad n 514) else option_or (option_map (λ m. Limit 515 m)
-        (if past then Some (SLOT_LIMIT + 1) else None)) None))
-
-    go : (b : Bool) → IsForSlots (option_or (option_map (λ m. Limit 515 m)
-        (if b then Some (SLOT_LIMIT + 1) else None)) None)
-    go true = inr refl
-    go false = inl refl
+clean-fault p line c = grind arith
 
 -- a line without the numbers of lines
 abbrev pub bare_line : RouteLine → RouteLine
@@ -151,18 +120,13 @@ bare-again : (line : RouteLine) (o : Option Elem) →
     option_map_or (is_again (bare_line line)) (option_map elem_without_line o) false
     ≡ option_map_or (is_again line) o false
 bare-again line None = refl
-bare-again line (Some e) =
-    any-changed (same_elem (elem_without_line e)) elem_without_line line.before
+bare-again line (Some e) = grind (arith, any-changed)
 
 bare-taken : (line : RouteLine) (o : Option Elem) →
     option_map_or (is_pin_of (bare_line line).earlier) (option_map elem_without_line o) false
     ≡ option_map_or (is_pin_of line.earlier) o false
 bare-taken line None = refl
-bare-taken line (Some e) =
-    any-changed (λ (net : RouteNet). list_any (same_pin (elem_without_line e)) net.elems)
-    net_without_lines line.earlier
-    ∙ (λ i. list_any (λ (net : RouteNet).
-    any-changed (same_pin (elem_without_line e)) elem_without_line net.elems i) line.earlier)
+bare-taken line (Some e) = grind (arith, any-changed)
 
 bare-ends : (p : RoutingProblem) (name : List ℕ) (o : Option Elem) →
     option_map_or (λ e. list_any (is_terminal e) (sinks_named p name))
@@ -222,15 +186,7 @@ bare-is p line =
     }
 
 bare-pin : (e : Elem) → elem_pin (elem_without_line e) ≡ elem_pin e
-bare-pin e = go e.kind
-  where
-    go : (kind : ElemKind) → pin_at kind (elem_without_line e) ≡ pin_at kind e
-    go Source = refl
-    go Opin = refl
-    go ChanX = refl
-    go ChanY = refl
-    go Ipin = refl
-    go Sink = refl
+bare-pin e = grind arith
 
 bare-near : (device : Device) (full : Bool) (elem previous : Option Elem) (at : ProblemContext) →
     is_pin_apart device (bare_context full
@@ -238,80 +194,21 @@ bare-near : (device : Device) (full : Bool) (elem previous : Option Elem) (at : 
     ≡ is_pin_apart device
     (record at { route = record at.route { elem = elem; previous = previous } })
 bare-near device full None None at = refl
-bare-near device full None (Some q) at =
-    λ i. is_opin q.kind && is_off device (bare-pin q i) None || false
-bare-near device full (Some e) None at =
-    λ i. false || is_ipin e.kind && is_off device (bare-pin e i) None
-bare-near device full (Some e) (Some q) at =
-    λ i. is_opin q.kind && is_off device (bare-pin q i) (elem_cell e)
-    || is_ipin e.kind && is_off device (bare-pin e i) (elem_cell q)
+bare-near device full None (Some q) at = grind (arith, bare-pin)
+bare-near device full (Some e) None at = grind (arith, bare-pin)
+bare-near device full (Some e) (Some q) at = grind (arith, bare-pin)
 
 -- what is clean without them is clean
 unbare : (device : Device) (full : Bool) (elem previous : Option Elem) (at : ProblemContext) →
     IsClean device (bare_context full
     (record at { route = record at.route { elem = elem; previous = previous } })) →
     IsClean device (record at { route = record at.route { elem = elem; previous = previous } })
-unbare device full None None at c = record {
-  known = c.known;
-  first = c.first;
-  source = c.source;
-  sink = c.sink;
-  once = c.once;
-  pin = c.pin;
-  near = sym (bare-near device full None None at) ∙ c.near;
-  meets = c.meets;
-  new = c.new;
-  joined = c.joined;
-  alone = c.alone;
-  order = c.order;
-}
-unbare device full None (Some q) at c = record {
-  known = c.known;
-  first = c.first;
-  source = c.source;
-  sink = c.sink;
-  once = c.once;
-  pin = c.pin;
-  near = sym (bare-near device full None (Some q) at) ∙ c.near;
-  meets = c.meets;
-  new = c.new;
-  joined = c.joined;
-  alone = c.alone;
-  order = c.order;
-}
-unbare device full (Some e) None at c = record {
-  known = c.known;
-  first = c.first;
-  source = c.source;
-  sink = c.sink;
-  once = c.once;
-  pin = c.pin;
-  near = sym (bare-near device full (Some e) None at) ∙ c.near;
-  meets = c.meets;
-  new = c.new;
-  joined = c.joined;
-  alone = c.alone;
-  order = c.order;
-}
-unbare device full (Some e) (Some q) at c = record {
-  known = c.known;
-  first = c.first;
-  source = c.source;
-  sink = c.sink;
-  once = c.once;
-  pin = c.pin;
-  near = sym (bare-near device full (Some e) (Some q) at) ∙ c.near;
-  meets = c.meets;
-  new = c.new;
-  joined = c.joined;
-  alone = c.alone;
-  order = c.order;
-}
+unbare device full None None at c = grind (arith, bare-near)
+unbare device full None (Some q) at c = grind (arith, bare-near)
+unbare device full (Some e) None at c = grind (arith, bare-near)
+unbare device full (Some e) (Some q) at c = grind (arith, bare-near)
 
 pub line-clean : (p : RoutingProblem) (line : RouteLine) →
     IsClean (device_of p) (problem_context p (bare_line line)) →
     IsClean (device_of p) (problem_context p line)
-line-clean p line c =
-    unbare (device_of p) (context_of (bare_line line)).full line.elem
-    (last_or None line.before) (problem_context p line)
-    (subst (λ (at : ProblemContext). IsClean (device_of p) at) (bare-is p line) c)
+line-clean p line c = grind (arith, unbare, bare-is)

@@ -1,7 +1,7 @@
 -- What one draw more makes of the sinks and of the inputs that are taken.
-use Rattle.std.proofs.Common.{◌≡◌, ◌≢◌, ℕ, zero, suc, ◌+◌, ◌*◌, ◌-◌, ◌<◌, ◌≤◌, Bool, false, Option, Some, None, List, [], ◌∷◌, ◌++◌, length, refl, sym, ap, subst, ◌∙◌, inl, inr, arith, zero-add, length-append}
-use Rattle.std.specs.Prelude.{All, flat_map, slice_set, unwrap_or, if◌then◌else◌}
-use Rattle.std.specs.List.{enumerate_from, range_with_len}
+use Rattle.std.proofs.Common.{◌≡◌, ◌≢◌, ℕ, zero, suc, ◌+◌, ◌*◌, ◌-◌, ◌<◌, ◌≤◌, false, Option, Some, None, List, [], ◌∷◌, ◌++◌, length, refl, sym, ap, subst, ◌∙◌, inl, inr, arith, zero-add, length-append}
+use Rattle.std.specs.Prelude.{All, slice_set, unwrap_or}
+use Rattle.std.specs.List.{range_with_len}
 use Rattle.std.specs.Option.{option_or}
 use Rattle.std.proofs.lemmas.Bool.{cases_Bool, cases_lt, eq-eqb, ltb-false, ltb-true, ne_eqb}
 use Rattle.std.proofs.lemmas.Grind.{flat_map-append}
@@ -21,37 +21,22 @@ use Rattle.route_gen.proofs.RoomLemmas.{among-all, full-among}
 pub into-push : (sinks : List Sink) (sink : Sink) (block : ℕ) →
     nets_into (sinks ++ sink ∷ []) block
     ≡ nets_into sinks block ++ ending_at block (length sinks, sink)
-into-push sinks sink block =
-    ap (flat_map (ending_at block)) (enumerate-push 0 sinks sink)
-    ∙ flat_map-append (ending_at block) (enumerate_from 0 sinks) ((0 + length sinks, sink) ∷ [])
-    ∙ ap (λ (t : List ℕ). nets_into sinks block ++ t)
-    (append-nil (ending_at block (0 + length sinks, sink)))
-    ∙ ap (λ (n : ℕ). nets_into sinks block ++ ending_at block (n, sink)) (zero-add (length sinks))
+into-push sinks sink block = grind (arith, enumerate-push, flat_map-append, append-nil, zero-add)
 
 -- it ends at its own block
 pub into-here : (sinks : List Sink) (sink : Sink) →
     nets_into (sinks ++ sink ∷ []) sink.block ≡ nets_into sinks sink.block ++ length sinks ∷ []
-into-here sinks sink =
-    into-push sinks sink sink.block
-    ∙ ap (λ (b : Bool). nets_into sinks sink.block ++ (if b then length sinks ∷ [] else []))
-    (eq-eqb sink.block sink.block refl)
+into-here sinks sink = grind (arith, into-push, eq-eqb)
 
 -- and at no other
 pub into-other : (sinks : List Sink) (sink : Sink) (block : ℕ) → block ≢ sink.block →
     nets_into sinks block ≡ nets_into (sinks ++ sink ∷ []) block
-into-other sinks sink block other = sym (
-    into-push sinks sink block
-    ∙ ap (λ (b : Bool). nets_into sinks block ++ (if b then length sinks ∷ [] else []))
-    (ne_eqb sink.block block (λ e. other (sym e)))
-    ∙ append-nil (nets_into sinks block)
-    )
+into-other sinks sink block other = grind (arith, into-push, ne_eqb, append-nil)
 
 -- what stands in the table at a block
 pub table-at : (side : ℕ) (sinks : List Sink) (block : ℕ) → block < side * side →
     entry (input_table side sinks) block ≡ nets_into sinks block
-table-at side sinks block below =
-    get_or-map-range_with_len (nets_into sinks) 0 (side * side) block block [] below
-    (zero-add block)
+table-at side sinks block below = grind (arith, get_or-map-range_with_len, zero-add)
 
 -- the table with one net more
 pub table-push : (side : ℕ) (sinks : List Sink) (sink : Sink) → sink.block < side * side →
@@ -71,11 +56,7 @@ table-length side sinks = length-map-range_with_len (nets_into sinks) 0 (side * 
 -- so many sinks are drawn
 pub drawing-length : (seed side nets : ℕ) → length (sinks_of seed side nets) ≡ nets
 drawing-length seed side zero = refl
-drawing-length seed side (suc nets) =
-    let before = drawing-length seed side nets in
-    let more = length-append (sinks_of seed side nets)
-    (drawn_sink side nets (drawing seed side nets) ∷ []) in
-    omega (arith, before, more)
+drawing-length seed side (suc nets) = grind (arith, length-append, (drawing-length seed side nets))
 
 module _ (side : ℕ) (sinks : List Sink) where
   -- the nets that end at each block
@@ -151,11 +132,7 @@ wanted-within side driver state some =
 pub next-free : (seed side nets : ℕ) → 1 ≤ side → nets < side * side →
     IsFree (input_table side (sinks_of seed side nets))
     (drawn_sink side nets (drawing seed side nets)).block
-next-free seed side nets some few =
-    let count = table-length side (sinks_of seed side nets) in
-    let inside = wanted-within side nets (drawing seed side nets).state some in
-    has-free seed side nets few (drawn_block side nets (drawing seed side nets).state)
-    (omega arith)
+next-free seed side nets some few = grind (arith, table-length, wanted-within, has-free)
 
 -- the table with the net that is drawn for next
 pub table-next : (seed side nets : ℕ) → 1 ≤ side → nets < side * side →

@@ -1,7 +1,7 @@
 -- The values of a generated problem fit, but that there may be too many slots.
 use Rattle.std.proofs.Common.{◌≡◌, ◌⊎◌, ℕ, ◌*◌, ◌<◌, ◌≤◌, Bool, true, false, Some, None, List, [], ◌∷◌, ◌++◌, length, refl, sym, ap, subst, ◌∙◌, inl, inr, arith, append_assoc, zero-add}
 use Rattle.std.specs.Prelude.{All, bytes_eq, not, slice_get, ◌&&◌, ◌||◌, ◌==◌}
-use Rattle.std.specs.List.{AllByRecursion, enumerate_from, list_all, list_any}
+use Rattle.std.specs.List.{AllByRecursion, list_all, list_any}
 use Rattle.std.specs.Option.{option_map_or}
 use Rattle.std.proofs.lemmas.Bool.{cases_eq, eq-eqb, ne_eqb}
 use Rattle.std.proofs.lemmas.List.Folds.{list_any-append, list_any_none}
@@ -9,7 +9,7 @@ use Rattle.std.proofs.lemmas.Option.{slice_get_within, get_or_from_slice_get}
 use Rattle.fpga_types.proofs.FitLemmas.{place-in}
 use Rattle.fpga_types.specs.Fit.{is_pin_of, same_elem, same_pin, same_place, splits}
 use Rattle.fpga_types.specs.Fits.{has_net, has_sink, lacks_sink, problem_context}
-use Rattle.fpga_types.specs.Kinds.{is_ipin, is_opin, is_pin, is_sink, is_source, same_label}
+use Rattle.fpga_types.specs.Kinds.{is_ipin, is_opin, is_pin, is_sink, is_source}
 use Rattle.fpga_types.specs.Problem.{RoutingProblem}
 use Rattle.fpga_types.specs.Terminals.{driver_named, is_input, is_ordinary_pin_at, is_terminal, sinks_named}
 use Rattle.fpga_types.specs.declared.netlist.Netlist.{Netlist}
@@ -64,15 +64,7 @@ record IsNumbered (side : ℕ) (sinks : List Sink) (number : ℕ) (net : RouteNe
 
 numbered-net : (side : ℕ) (sinks : List Sink) (k : ℕ) (net : RouteNet) →
     slice_get (route_nets side sinks) k ≡ Some net → IsNumbered side sinks k net
-numbered-net side sinks k net here =
-    let made = get-map (route_net side) (enumerate_from 0 sinks) k net here in
-    let pair = numbered-there 0 sinks k made.0 made.1 in
-    let number : made.0.0 ≡ k = pair.0 ∙ zero-add k in
-    record {
-      sink = made.0.1;
-      there = pair.1;
-      is = sym made.2 ∙ (λ i. route_net side (number i, made.0.1));
-    }
+numbered-net side sinks k net here = grind (arith, get-map, numbered-there, zero-add)
 
 pub net-there : (side : ℕ) (sinks : List Sink) (s : List RouteNet × RouteNet × List RouteNet) →
     In (splits (route_nets side sinks)) s → IsThere side sinks s
@@ -104,26 +96,10 @@ any-off p (x ∷ xs) all = ap (λ (b : Bool). b || list_any p xs) all.0 ∙ any-
 
 -- pins at two places, or with two numbers
 pins-apart : (a b : Elem) → (a.x == b.x && a.y == b.y) ≡ false → same_pin a b ≡ false
-pins-apart a b apart = go (is_pin a.kind) (is_pin b.kind) (a.x == b.x) (a.y == b.y) apart
-  where
-    go : (f g x y : Bool) → (x && y) ≡ false →
-        (f && g && (x && y && same_label a.label b.label) && a.number == b.number) ≡ false
-    go false g x y h = refl
-    go true false x y h = refl
-    go true true false y h = refl
-    go true true true false h = refl
-    go true true true true h = cc
+pins-apart a b apart = grind arith
 
 pins-differ : (a b : Elem) → (a.number == b.number) ≡ false → same_pin a b ≡ false
-pins-differ a b differ =
-    (λ i. is_pin a.kind && is_pin b.kind && same_place a b && differ i)
-    ∙ go (is_pin a.kind) (is_pin b.kind) (same_place a b)
-  where
-    go : (f g h : Bool) → (f && g && h && false) ≡ false
-    go false g h = refl
-    go true false h = refl
-    go true true false = refl
-    go true true true = refl
+pins-differ a b differ = grind arith
 
 module _ (side : ℕ) (some : 1 ≤ side) (sinks : List Sink) (netlist : Netlist) (route : RouteText)
     (blocks : HasBlocks side netlist) (nets : HasNets sinks netlist)
@@ -177,11 +153,7 @@ module _ (side : ℕ) (some : 1 ≤ side) (sinks : List Sink) (netlist : Netlist
 
     -- an element that is no pin
     no-pin : (e : Elem) → is_pin e.kind ≡ false → is_pin_of earlier e ≡ false
-    no-pin e none = list_any_none (λ (other : RouteNet). list_any (same_pin e) other.elems) earlier
-        (all-from_In (λ (other : RouteNet). list_any (same_pin e) other.elems ≡ false) earlier
-        (λ other i. list_any_none (same_pin e) other.elems
-        (all-from_In (λ x. same_pin e x ≡ false) other.elems (λ x j.
-        λ k. none k && is_pin x.kind && same_place e x && e.number == x.number))))
+    no-pin e none = grind (arith, list_any_none, all-from_In)
 
     -- a pin that no earlier net has
     own-pin : (e : Elem) → ((other : ℕ) (end_of : Sink) → other < net →
@@ -227,19 +199,7 @@ module _ (side : ℕ) (some : 1 ≤ side) (sinks : List Sink) (netlist : Netlist
             go false = refl
 
     fine-source : IsFine (net_name net) earlier (elem_at Source start Class OUTPUT_CLASS)
-    fine-source =
-        let x = eq-eqb start.column start.column refl in
-        let y = eq-eqb start.row start.row refl in
-        let is = starts_here in
-        record {
-          source = (λ i. true && not (option_map_or
-              (is_terminal (elem_at Source start Class OUTPUT_CLASS)) (is i) false))
-              ∙ (λ i. not (x i && y i && true && true));
-          sink = refl;
-          opin = refl;
-          ipin = refl;
-          alone = no-pin (elem_at Source start Class OUTPUT_CLASS) refl;
-        }
+    fine-source = grind (arith, eq-eqb, starts_here, no-pin)
 
     fine-opin : IsFine (net_name net) earlier (elem_at Opin start Pin OUTPUT_PIN)
     fine-opin =
@@ -294,19 +254,7 @@ module _ (side : ℕ) (some : 1 ≤ side) (sinks : List Sink) (netlist : Netlist
         }
 
     fine-sink : IsFine (net_name net) earlier (elem_at SinkKind end Class INPUT_CLASS)
-    fine-sink =
-        let x = eq-eqb end.column end.column refl in
-        let y = eq-eqb end.row end.row refl in
-        let is = ends_here in
-        record {
-          source = refl;
-          sink = (λ i. true && not (list_any
-              (is_terminal (elem_at SinkKind end Class INPUT_CLASS)) (is i)))
-              ∙ (λ i. not ((x i && y i && true && true) || false));
-          opin = refl;
-          ipin = refl;
-          alone = no-pin (elem_at SinkKind end Class INPUT_CLASS) refl;
-        }
+    fine-sink = grind (arith, eq-eqb, ends_here, no-pin)
 
     fine-all : AllByRecursion (IsFine (net_name net) earlier) (trace start end sink.pin)
     fine-all = (
@@ -380,10 +328,7 @@ module _ (side : ℕ) (some : 1 ≤ side) (sinks : List Sink) (netlist : Netlist
     whole : trace start end sink.pin
         ≡ (elem_at Source start Class OUTPUT_CLASS ∷ elem_at Opin start Pin OUTPUT_PIN
         ∷ cells start end ++ elem_at Ipin end Pin sink.pin ∷ []) ++ sink_here ∷ []
-    whole = ap (λ (es : List Elem). elem_at Source start Class OUTPUT_CLASS
-        ∷ elem_at Opin start Pin OUTPUT_PIN ∷ es)
-        (sym (append_assoc (cells start end) (elem_at Ipin end Pin sink.pin ∷ [])
-        (sink_here ∷ [])))
+    whole = grind (arith, append_assoc)
 
     -- the line of an element
     pub elem-clean : (s : List Elem × Elem × List Elem) → In (splits (trace start end sink.pin)) s →
@@ -448,33 +393,11 @@ module _ (side : ℕ) (some : 1 ≤ side) (sinks : List Sink) (netlist : Netlist
               elem = Some s.1;
               after = s.2;
             }) ≡ false
-        lacking s (inl more) =
-            λ k. true && ne_eqb (length s.2) 0 (λ none. omega (arith, more, none)) k
-            && not (list_all (has_sink (s.0 ++ s.1 ∷ [])) (sinks_named p (net_name net)))
-        lacking s (inr is) =
-            (λ k. true && length (is.1 k) == 0 && not (list_all (has_sink (s.0 ++ is.0 k ∷ []))
-            (ends_here k)))
-            ∙ ap (λ (b : Bool). not (b && true)) (list_any-append
-            (λ (e : Elem). is_sink e.kind && is_terminal e (class_there end INPUT_CLASS)) s.0
-            (sink_here ∷ []) ∙ ap (λ (b : Bool). list_any (λ (e : Elem). is_sink e.kind
-            && is_terminal e (class_there end INPUT_CLASS)) s.0 || (b || false)) same_end
-            ∙ or_on (list_any (λ (e : Elem). is_sink e.kind
-            && is_terminal e (class_there end INPUT_CLASS)) s.0))
-          where
-            same_end : (true && is_terminal sink_here (class_there end INPUT_CLASS)) ≡ true
-            same_end =
-                let x = eq-eqb end.column end.column refl in
-                let y = eq-eqb end.row end.row refl in
-                λ k. x k && y k && true && true
-
-            or_on : (b : Bool) → (b || true) ≡ true
-            or_on true = refl
-            or_on false = refl
+        lacking s (inl more) = grind (arith, ne_eqb)
+        lacking s (inr is) = grind (arith, ends_here, list_any-append, class_there, eq-eqb)
 
         ends-sink : (s : List Elem × Elem × List Elem) →
             (0 < length s.2) ⊎ ((s.1 ≡ sink_here) × (s.2 ≡ [])) →
             (true && (false || length s.2 == 0 && not (is_sink s.1.kind))) ≡ false
-        ends-sink s (inl more) =
-            λ k. ne_eqb (length s.2) 0 (λ none. omega (arith, more, none)) k
-            && not (is_sink s.1.kind)
+        ends-sink s (inl more) = grind (arith, ne_eqb)
         ends-sink s (inr is) = λ k. length (is.1 k) == 0 && not (is_sink (is.0 k).kind)

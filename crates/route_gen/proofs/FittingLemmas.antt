@@ -1,6 +1,6 @@
 -- What the texts of a generated problem read as fits, but that there may be too many slots.
-use Rattle.std.proofs.Common.{◌≡◌, ℕ, ◌+◌, ◌*◌, ◌<◌, ◌≤◌, true, false, Option, Some, None, List, [], ◌∷◌, length, refl, sym, ap, subst, ◌∙◌, inl, inr, arith, get_or, zero-add}
-use Rattle.std.specs.Prelude.{All, bytes_eq, map, not, ◌&&◌, if◌then◌else◌}
+use Rattle.std.proofs.Common.{rules, ◌≡◌, ℕ, ◌*◌, ◌<◌, ◌≤◌, true, false, Option, Some, None, List, [], ◌∷◌, length, refl, sym, ap, subst, ◌∙◌, inl, inr, arith, get_or, zero-add}
+use Rattle.std.specs.Prelude.{All, bytes_eq, map}
 use Rattle.std.specs.List.{AllByRecursion, enumerate_from}
 use Rattle.std.specs.Option.{option_or}
 use Rattle.std.proofs.lemmas.Bool.{eq-eqb}
@@ -9,21 +9,17 @@ use Rattle.std.proofs.lemmas.List.Folds.{list_any_none}
 use Rattle.std.proofs.lemmas.Simd.{map-map}
 use Rattle.fpga_text.specs.FirstFault.{first_fault}
 use Rattle.fpga_text.specs.declared.fault.TextFault.{TextFault}
-use Rattle.fpga_text.specs.declared.fault.TextFault.TheVariants.{Bad}
 use Rattle.fpga_types.specs.Fit.{RouteLine, net_lines, route_lines, splits}
-use Rattle.fpga_types.specs.Fits.{array_fault, device_of, end_fault, has_net, net_line_fault, problem_context, problem_faults, same_size}
+use Rattle.fpga_types.specs.Fits.{array_fault, device_of, end_fault, has_net, net_line_fault, problem_context, problem_faults}
 use Rattle.fpga_types.specs.Problem.{RoutingProblem, problem_of}
 use Rattle.fpga_types.specs.Size.{Size}
-use Rattle.fpga_types.specs.declared.arch.Arch.{Arch}
 use Rattle.fpga_types.specs.declared.limits.TheConstants.{SIDE_LIMIT}
-use Rattle.fpga_types.specs.declared.netlist.Net.{Net}
 use Rattle.fpga_types.specs.declared.netlist.Netlist.{Netlist}
 use Rattle.fpga_types.specs.declared.route.Elem.{Elem}
 use Rattle.fpga_types.specs.declared.route.ElemKind.TheVariants.{Ipin, Sink as SinkKind}
 use Rattle.fpga_types.specs.declared.route.Label.TheVariants.{Class, Pin}
 use Rattle.fpga_types.specs.declared.route.RouteNet.{RouteNet}
 use Rattle.fpga_types.specs.declared.route.RouteText.{RouteText}
-use Rattle.fpga_net.specs.Value.{net_value}
 use Rattle.fpga_place.specs.Value.{place_value}
 use Rattle.fpga_route.specs.ReadBack.{SameButLines, elem_without_line, net_without_lines, without_lines}
 use Rattle.list_laws.proofs.Members.{In, In-all, In-append_cases, In-map, all-from_In, from_In-flat_map, from_In-map, list_any-from_In}
@@ -32,8 +28,8 @@ use Rattle.list_laws.proofs.Rows.{map-alike}
 use Rattle.route_gen.specs.Draws.{location_of, sinks_of}
 use Rattle.route_gen.specs.Fitting.{AreRead, FitsButForSlots, IsForSlots}
 use Rattle.route_gen.specs.Generated.{generated}
-use Rattle.route_gen.specs.Laws.{HasBlocks, HasNets, IsDrawn, architecture_of_all, netlist_of_all, placement_of}
-use Rattle.route_gen.specs.Netlists.{generated_netlist, net_name}
+use Rattle.route_gen.specs.Laws.{HasBlocks, HasNets, architecture_of_all, netlist_of_all, placement_of}
+use Rattle.route_gen.specs.Netlists.{net_name}
 use Rattle.route_gen.specs.Placements.{generated_placement}
 use Rattle.route_gen.specs.Routes.{route_net, route_nets, route_to}
 use Rattle.route_gen.specs.Traces.{cells, elem_at, trace}
@@ -57,8 +53,7 @@ use Rattle.route_gen.proofs.NameLemmas.{net-same}
 bare-same : (xs : List Elem) → AllByRecursion (λ e. elem_without_line e ≡ e) xs →
     map elem_without_line xs ≡ xs
 bare-same [] all = refl
-bare-same (x ∷ xs) all =
-    let here = all.0 in let rest = bare-same xs all.1 in λ i. here i ∷ rest i
+bare-same (x ∷ xs) all = grind (arith, (bare-same xs all.1))
 
 bare-trace : (driver sink : Location) (pin : ℕ) →
     map elem_without_line (trace driver sink pin) ≡ trace driver sink pin
@@ -146,11 +141,7 @@ module _ (side : ℕ) (some : 1 ≤ side) (sinks : List Sink) (netlist : Netlist
 
   -- the array line
   array-clean : array_fault p ≡ None
-  array-clean =
-      let one = eq-eqb side side refl in
-      (λ i. if same_size (square_of side) (grid_is i) then None
-      else Some (Bad route.grid_line 501))
-      ∙ (λ i. if one i && one i then None else Some (Bad route.grid_line 501))
+  array-clean = grind (arith, eq-eqb, square_of, grid_is)
 
   -- each net has its line
   has-line : (net : ℕ) → net < length sinks → has_net route.nets (net_name net) ≡ true
@@ -166,15 +157,7 @@ module _ (side : ℕ) (some : 1 ≤ side) (sinks : List Sink) (netlist : Netlist
       (In-enumerate 0 sinks net none below))) (net-same net)
 
   end-clean : end_fault p ≡ None
-  end-clean =
-      let lacks = list_any_none (λ (net : Net). not net.global
-      && not (has_net route.nets net.name)) netlist.nets
-      (all-from_In (λ (net : Net). (not net.global && not (has_net route.nets net.name)) ≡ false)
-      netlist.nets (λ net i.
-      let drawn : IsDrawn sinks net = In-all (IsDrawn sinks) netlist.nets net nets.others i in
-      ap (λ (n : Net). not n.global && not (has_net route.nets n.name)) drawn.is
-      ∙ ap not (has-line drawn.number drawn.below))) in
-      λ i. if lacks i then Some (Bad (route.lines + 1) 502) else None
+  end-clean = grind (arith, list_any_none, all-from_In, In-all, has-line)
 
   pub values-fit : FitsButForSlots p
   values-fit = all-from_In IsForSlots (problem_faults p) (λ fault i. elim i [
@@ -216,9 +199,7 @@ texts-fit seed side nets p some limit few read =
     let most = square side SIDE_LIMIT limit in
     let count = drawing-length seed side nets in
     let arch : p.arch ≡ architecture_of_all = read.arch in
-    let netlist : p.netlist ≡ netlist_of_all seed side nets = read.netlist.1
-    ∙ ap (λ (a : Arch). net_value a (generated_netlist seed side nets)) arch
-    ∙ sym (netlist-reads seed side nets some limit few).1 in
+    let netlist : p.netlist ≡ netlist_of_all seed side nets = grind (arith, netlist-reads) in
     let has = netlist-blocks seed side nets in
     let placement : p.placement ≡ placement_of side = read.placement.1
     ∙ ap (λ (n : Netlist). place_value n (generated_placement side)) netlist
@@ -249,5 +230,4 @@ first-only (fault ∷ more) all =
 pub first-fits : (seed side nets : ℕ) (p : RoutingProblem) → 1 ≤ side → side ≤ SIDE_LIMIT →
     nets ≤ side * side → AreRead (generated seed side nets) p →
     IsForSlots (first_fault (problem_faults p))
-first-fits seed side nets p some limit few read =
-    first-only (problem_faults p) (texts-fit seed side nets p some limit few read)
+first-fits seed side nets p some limit few read = search (rules, first-only, texts-fit)

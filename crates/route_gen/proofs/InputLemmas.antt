@@ -3,7 +3,7 @@ use Rattle.std.proofs.Common.{◌≡◌, ℕ, zero, suc, ◌*◌, ◌≤◌, Som
 use Rattle.std.specs.Prelude.{slice_get}
 use Rattle.std.proofs.lemmas.Bool.{cases_eq}
 use Rattle.list_laws.proofs.Places.{get-cases, get-last}
-use Rattle.route_gen.specs.Draws.{drawing, drawn_sink, ending_at, nets_into, sinks_of}
+use Rattle.route_gen.specs.Draws.{ending_at, nets_into, sinks_of}
 use Rattle.route_gen.specs.declared.draws.Sink.{Sink}
 use Rattle.route_gen.proofs.DrawLemmas.{into-here, into-other, into-push, next-free, table-at, table-length}
 
@@ -82,9 +82,12 @@ pub sinks-taken : (seed side nets : ℕ) → 1 ≤ side → nets ≤ side * side
     AreTaken (sinks_of seed side nets)
 sinks-taken seed side zero some few = taken-none
 sinks-taken seed side (suc nets) some few =
-    let sinks = sinks_of seed side nets in
-    let sink = drawn_sink side nets (drawing seed side nets) in
-    let free = next-free seed side nets some (omega arith) in
-    let count = table-length side sinks in
-    taken-push sinks sink (sinks-taken seed side nets some (omega arith))
-    (ap length (table-at side sinks sink.block (omega (arith, free.there))))
+    grind (
+      arith,
+      next-free,
+      table-length,
+      taken-push,
+      table-at,
+      (sinks-taken seed side nets some
+          (omega arith)),
+    )

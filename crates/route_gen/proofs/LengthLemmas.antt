@@ -1,7 +1,6 @@
 -- How many bytes the texts of a generated problem have at most.
-use Rattle.std.proofs.Common.{ℕ, zero, suc, ◌≡◌, ◌+◌, ◌*◌, ◌-◌, ◌<◌, ◌≤◌, ◌^◌, Bool, true, false, Option, Some, None, List, [], ◌∷◌, ◌++◌, length, refl, arith, length-append}
-use Rattle.std.specs.Int.{abs_diff}
-use Rattle.std.specs.Prelude.{All, codes, decimal, flat_map, map, nat_le, nat_lt, slice_get, ◌&&◌, if◌then◌else◌}
+use Rattle.std.proofs.Common.{ℕ, zero, suc, ◌≡◌, ◌+◌, ◌*◌, ◌<◌, ◌≤◌, ◌^◌, true, Option, Some, None, List, [], ◌∷◌, ◌++◌, length, refl, arith, length-append}
+use Rattle.std.specs.Prelude.{All, codes, decimal, flat_map, map, nat_le, slice_get, ◌&&◌}
 use Rattle.std.specs.List.{AllByRecursion, enumerate_from, range_with_len}
 use Rattle.std.specs.Option.{option_map_or}
 use Rattle.std.proofs.lemmas.Bool.{leb-true}
@@ -26,11 +25,11 @@ use Rattle.fpga_route.specs.Printed.{in_six_places, printed_elem, printed_net}
 use Rattle.fpga_route.specs.ReadBack.{IsPrintableElem}
 use Rattle.route_gen.specs.Draws.{input_table, location_of, nets_into, sinks_of}
 use Rattle.route_gen.specs.Generated.{generated}
-use Rattle.route_gen.specs.Netlists.{block_lines, block_name, driven, generated_netlist, input_word, net_name, pin_word}
+use Rattle.route_gen.specs.Netlists.{block_lines, generated_netlist, input_word, net_name, pin_word}
 use Rattle.route_gen.specs.Placements.{generated_placement, place_line, placement_head}
 use Rattle.route_gen.specs.Routes.{generated_route, route_net, route_nets}
 use Rattle.route_gen.specs.Texts.{AreShort}
-use Rattle.route_gen.specs.Traces.{along_column, along_row, cells, channel, elem_at, to_row, trace}
+use Rattle.route_gen.specs.Traces.{along_column, along_row, cells, elem_at, to_row, trace}
 use Rattle.route_gen.specs.declared.draws.Sink.{Sink}
 use Rattle.route_gen.specs.declared.draws.TheConstants.{INPUT_COUNT}
 use Rattle.route_gen.specs.declared.location.Location.{Location}
@@ -50,11 +49,7 @@ both xs ys m n front back = let e = length-append xs ys in omega (arith, e, fron
 many : {T : Type 0} (f : T → Bytes) (most : ℕ) (xs : List T) →
     AllByRecursion (λ x. length (f x) ≤ most) xs → length (flat_map f xs) ≤ length xs * most
 many f most [] all = omega arith
-many f most (x ∷ xs) all =
-    let rest = many f most xs all.1 in
-    let e = length-append (f x) (flat_map f xs) in
-    let here = all.0 in
-    rw (flat_map-cons f x xs) (omega (arith, e, rest, here))
+many f most (x ∷ xs) all = grind (arith, length-append, flat_map-cons, (many f most xs all.1))
 
 three-digits : (n : ℕ) → n < 1000 → length (decimal n) ≤ 3
 three-digits n few = length-decimal-le 3 n (omega arith) (omega arith) (omega arith)
@@ -79,60 +74,14 @@ label-short Pad = omega arith
 label-short Track = omega arith
 
 elem-short : (e : Elem) → e.x < 1000 → e.y < 1000 → e.number < 10 → length (printed_elem e) ≤ 29
-elem-short e x y small =
-    let kind = in_six_places (kind_word e.kind) in
-    let a = kind ++ codes " (" in
-    let b = a ++ decimal e.x in
-    let c = b ++ codes "," in
-    let d = c ++ decimal e.y in
-    let f = d ++ codes ")  " in
-    let g = f ++ label_word e.label in
-    let h = g ++ codes " " in
-    let i = h ++ decimal e.number in
-    let digit = length-decimal-le 1 e.number (omega arith) (omega arith) (omega arith) in
-    both i (codes "  \n") 26 3
-    (both h (decimal e.number) 25 1
-    (both g (codes " ") 24 1
-    (both f (label_word e.label) 18 6
-    (both d (codes ")  ") 15 3
-    (both c (decimal e.y) 12 3
-    (both b (codes ",") 11 1
-    (both a (decimal e.x) 8 3
-    (both kind (codes " (") 6 2 (six e.kind) (omega arith))
-    (three-digits e.x x)) (omega arith)) (three-digits e.y y)) (omega arith))
-    (label-short e.label)) (omega arith)) digit) (omega arith)
+elem-short e x y small = grind (arith, length-decimal-le, both, six, three-digits, label-short)
 
 -- an element of a generated net has three digits for a column or a row
 within : (side : ℕ) (kind : ElemKind) (x y : ℕ) →
     option_map_or (is_cell (square_of side)) (channel_at kind x y)
     (nat_le x (side + 1) && nat_le y (side + 1)) ≡ true →
     (x ≤ side + 1) × (y ≤ side + 1)
-within side kind x y at = go kind at
-  where
-    place : (nat_le x (side + 1) && nat_le y (side + 1)) ≡ true →
-        (x ≤ side + 1) × (y ≤ side + 1)
-    place h =
-        let tests = both_true (nat_le x (side + 1)) (nat_le y (side + 1)) h in
-        (leb-true x (side + 1) tests.0, leb-true y (side + 1) tests.1)
-
-    go : (kind : ElemKind) → option_map_or (is_cell (square_of side)) (channel_at kind x y)
-        (nat_le x (side + 1) && nat_le y (side + 1)) ≡ true → (x ≤ side + 1) × (y ≤ side + 1)
-    go Source h = place h
-    go Opin h = place h
-    go ChanX h =
-        let tests = both_true (nat_le 1 x && nat_le x side) (nat_le y side) h in
-        let first = both_true (nat_le 1 x) (nat_le x side) tests.0 in
-        let a = leb-true x side first.1 in
-        let b = leb-true y side tests.1 in
-        (omega arith, omega arith)
-    go ChanY h =
-        let tests = both_true (nat_le x side && nat_le 1 y) (nat_le y side) h in
-        let first = both_true (nat_le x side) (nat_le 1 y) tests.0 in
-        let a = leb-true x side first.0 in
-        let b = leb-true y side tests.1 in
-        (omega arith, omega arith)
-    go Ipin h = place h
-    go SinkKind h = place h
+within side kind x y at = grind (arith, both_true, leb-true, square_of)
 
 -- lines of elements that can be printed and have one digit for a number
 elems-short : (side : ℕ) → side ≤ SIDE_LIMIT → (elems : List Elem) →
@@ -141,11 +90,7 @@ elems-short : (side : ℕ) → side ≤ SIDE_LIMIT → (elems : List Elem) →
     AllByRecursion (λ e. length (printed_elem e) ≤ 29) elems
 elems-short side limit [] places small = tt
 elems-short side limit (e ∷ elems) places small =
-    let at = within side e.kind e.x e.y places.0.sound.place in
-    let column = at.0 in let row = at.1 in (
-      elem-short e (omega arith) (omega arith) small.0,
-      elems-short side limit elems places.1 small.1,
-    )
+    grind (arith, within, elem-short, (elems-short side limit elems places.1 small.1))
 
 numbers-small : (driver sink : Location) (pin : ℕ) → pin < INPUT_COUNT →
     AllByRecursion (λ e. e.number < 10) (trace driver sink pin)
@@ -164,48 +109,18 @@ numbers-small driver sink pin few = (
 
 row-count : (row from to : ℕ) → 1 ≤ from → 1 ≤ to → from ≤ 100 → to ≤ 100 →
     length (along_row row from to) ≤ 100
-row-count row from to a b c d =
-    let e = length-map-range_with_len (λ steps. channel ChanX (if nat_lt to from then from - steps
-    else from + steps) row) 0 (abs_diff from to + 1) in omega (arith, e)
+row-count row from to a b c d = grind (arith, length-map-range_with_len)
 
 column-count : (column from to : ℕ) → from ≤ 100 → to ≤ 100 →
     length (along_column column from to) ≤ 101
-column-count column from to c d =
-    let e = length-map-range_with_len (λ steps. channel ChanY column (if nat_lt to from
-    then from - steps else from + steps)) 0 (abs_diff from to + 1) in omega (arith, e)
+column-count column from to c d = grind (arith, length-map-range_with_len)
 
 way-count : (column from to : ℕ) → from < 100 → to < 100 → length (to_row column from to) ≤ 102
-way-count column from to c d = go (nat_lt from to) (nat_lt to from)
-  where
-    go : (up down : Bool) →
-        length (if up then along_column column (from + 1) to ++ channel ChanX column to ∷ []
-        else if down then along_column column from (to + 1) ++ channel ChanX column to ∷ []
-        else []) ≤ 102
-    go true down =
-        let e = length-append (along_column column (from + 1) to) (channel ChanX column to ∷ []) in
-        let n = column-count column (from + 1) to (omega arith) (omega arith) in
-        omega (arith, e, n)
-    go false true =
-        let e = length-append (along_column column from (to + 1)) (channel ChanX column to ∷ []) in
-        let n = column-count column from (to + 1) (omega arith) (omega arith) in
-        omega (arith, e, n)
-    go false false = omega arith
+way-count column from to c d = grind (arith, length-append, column-count)
 
 trace-count : (side : ℕ) (driver sink : Location) (pin : ℕ) → side ≤ SIDE_LIMIT →
     IsPlace side driver → IsPlace side sink → length (trace driver sink pin) ≤ 206
-trace-count side driver sink pin limit from to =
-    let c = from.column_below in let d = from.column_above in
-    let r = from.row_below in let s = from.row_above in
-    let v = to.column_below in let w = to.column_above in
-    let x = to.row_below in let y = to.row_above in
-    let row = row-count (driver.row - 1) driver.column sink.column (omega arith) (omega arith)
-    (omega arith) (omega arith) in
-    let way = way-count sink.column (driver.row - 1) (sink.row - 1) (omega arith) (omega arith) in
-    let all = length-append (along_row (driver.row - 1) driver.column sink.column)
-    (to_row sink.column (driver.row - 1) (sink.row - 1)) in
-    let ends = length-append (cells driver sink)
-    (elem_at Ipin sink Pin pin ∷ elem_at SinkKind sink Class INPUT_CLASS ∷ []) in
-    omega (arith, row, way, all, ends)
+trace-count side driver sink pin limit from to = grind (arith, row-count, way-count, length-append)
 
 -- ---- the route
 
@@ -275,23 +190,7 @@ module _ (side : ℕ) (some : 1 ≤ side) (limit : side ≤ SIDE_LIMIT) where
   -- ---- the placement
 
   place-short : (block : ℕ) → block < side * side → length (place_line side block) ≤ 40
-  place-short block below =
-      let most = few-blocks in
-      let at = block-place side block some below in
-      let column = at.column_below in let row = at.row_below in
-      let place = location_of side block in
-      let a = block_name block ++ codes " " in
-      let b = a ++ decimal place.column in
-      let c = b ++ codes " " in
-      let d = c ++ decimal place.row in
-      both d (codes " 0\n") 37 3
-      (both c (decimal place.row) 34 3
-      (both b (codes " ") 33 1
-      (both a (decimal place.column) 30 3
-      (both (block_name block) (codes " ") 10 20
-      (both (codes "b") (decimal block) 5 5 (omega arith) (five-digits block (omega arith)))
-      (omega arith)) (three-digits place.column (omega arith))) (omega arith))
-      (three-digits place.row (omega arith))) (omega arith)
+  place-short block below = grind (arith, few-blocks, block-place, both, five-digits, three-digits)
 
   places-short : (first count : ℕ) → first + count ≤ side * side →
       AllByRecursion (λ block. length (place_line side block) ≤ 40) (range_with_len first count)
@@ -338,21 +237,7 @@ module _ (side : ℕ) (some : 1 ≤ side) (limit : side ≤ SIDE_LIMIT) where
 
     block-short : (block : ℕ) → block < 10000 → length (block_lines nets (block, ends)) ≤ 200
     block-short block below =
-        let name = both (codes ".clb ") (block_name block) 10 10 (omega arith)
-        (both (codes "b") (decimal block) 5 5 (omega arith) (five-digits block (omega arith))) in
-        let start = codes ".clb " ++ block_name block in
-        let begin = start ++ codes "\npinlist: " in
-        let inputs = flat_map (input_word ends) (range_with_len 0 INPUT_COUNT) in
-        let words = many (input_word ends) 20 (range_with_len 0 INPUT_COUNT)
-        (inputs-short (range_with_len 0 INPUT_COUNT)) in
-        let out = pin_word (driven nets block) in
-        both (begin ++ inputs ++ out) (codes "\n") 190 10
-        (both (begin ++ inputs) out 150 40
-        (both begin inputs 50 100 (both start (codes "\npinlist: ") 20 30 name (omega arith))
-        (omega (arith, words)))
-        (let short = pin-short (driven nets block) (λ n is.
-        let b = driven-below nets block n is in omega arith) in omega (arith, short)))
-        (omega arith)
+        grind (arith, both, five-digits, many, inputs-short, pin-short, driven-below)
 
   -- the nets that end at a block
   ends-small : (sinks : List Sink) → AreTaken sinks → length sinks ≤ 10000 →
@@ -388,9 +273,5 @@ module _ (side : ℕ) (some : 1 ≤ side) (limit : side ≤ SIDE_LIMIT) where
 
 pub texts-short : (seed side nets : ℕ) → 1 ≤ side → side ≤ SIDE_LIMIT → nets ≤ side * side →
     AreShort (2 ^ 26) (generated seed side nets)
-texts-short seed side nets some limit few = record {
-  architecture = omega arith;
-  netlist = netlist-short side some limit seed nets few;
-  placement = placement-short side some limit;
-  route = route-short side some limit seed nets few;
-}
+texts-short seed side nets some limit few =
+    grind (arith, netlist-short, placement-short, route-short)

@@ -1,6 +1,6 @@
 -- The names of blocks and of nets differ, and so do the places of blocks.
-use Rattle.std.proofs.Common.{◌≡◌, ◌≢◌, ℕ, zero, suc, ◌+◌, ◌*◌, ◌/◌, ◌%◌, ◌<◌, ◌≤◌, ◌^◌, Bool, true, false, cond, Some, List, ◌∷◌, refl, sym, ap, ◌∙◌, inl, inr, arith}
-use Rattle.std.specs.Prelude.{bytes_eq, decimal, find, map, ◌==◌, ◌&&◌, ◌||◌}
+use Rattle.std.proofs.Common.{◌≡◌, ◌≢◌, ℕ, zero, suc, ◌+◌, ◌<◌, ◌≤◌, ◌^◌, Bool, true, false, cond, Some, ◌∷◌, refl, sym, ap, ◌∙◌, inl, inr, arith}
+use Rattle.std.specs.Prelude.{bytes_eq, decimal, find, map, ◌==◌, ◌&&◌}
 use Rattle.std.specs.List.{list_any, range_with_len}
 use Rattle.std.proofs.lemmas.Bool.{cases_Bool, cases_eq, ne_eqb}
 use Rattle.std.proofs.lemmas.Slice.Eq.{bytes_eq-Decides}
@@ -20,14 +20,7 @@ decimal-alone m n m_fits n_fits same =
 names-other : (first m n : ℕ) → m < 2 ^ 64 → n < 2 ^ 64 → m ≢ n →
     bytes_eq (first ∷ decimal m) (first ∷ decimal n) ≡ false
 names-other first m n m_fits n_fits other =
-    elim (cases_Bool (bytes_eq (first ∷ decimal m) (first ∷ decimal n))) [
-      | inl same ↦ absurd (other (decimal-alone m n m_fits n_fits (tail
-          ((bytes_eq-Decides (first ∷ decimal m) (first ∷ decimal n)).0 same))))
-      | inr differ ↦ differ
-    ]
-  where
-    tail : {a b : ℕ} {s t : List ℕ} → (a ∷ s) ≡ (b ∷ t) → s ≡ t
-    tail e = cc
+    grind (arith, cases_Bool, decimal-alone, bytes_eq-Decides)
 
 -- a block has its name, and no other block has it
 pub name-same : (block : ℕ) → bytes_eq (block_name block) (block_name block) ≡ true
@@ -49,25 +42,7 @@ net-other = names-other 110
 pub place-other : (side m n : ℕ) → 1 ≤ side → m ≢ n →
     ((location_of side m).column == (location_of side n).column
     && (location_of side m).row == (location_of side n).row) ≡ false
-place-other side m n some other =
-    elim (cases_eq (m % side + 1) (n % side + 1)) [
-      | inl column ↦ elim (cases_eq (m / side + 1) (n / side + 1)) [
-        | inl row ↦ absurd (other (
-            let rest : m % side ≡ n % side = omega arith in
-            let quotient : m / side ≡ n / side = omega arith in
-            let product : side * (m / side) ≡ side * (n / side)
-            = ap (λ (q : ℕ). side * q) quotient in
-            omega arith))
-        | inr row ↦ and_off (m % side + 1 == n % side + 1) (m / side + 1 == n / side + 1)
-            (ne_eqb (m / side + 1) (n / side + 1) row)
-      ]
-      | inr column ↦ ap (λ (b : Bool). b && (m / side + 1 == n / side + 1))
-          (ne_eqb (m % side + 1) (n % side + 1) column)
-    ]
-  where
-    and_off : (a b : Bool) → b ≡ false → (a && b) ≡ false
-    and_off true b off = off
-    and_off false b off = refl
+place-other side m n some other = grind (arith, cases_eq, ne_eqb)
 
 module _ {T : Type 0} (p : T → Bool) (f : ℕ → T) where
   -- a search among what the numbers of a range make finds the one that passes
@@ -92,15 +67,11 @@ module _ {T : Type 0} (p : T → Bool) (f : ℕ → T) where
       list_any p (map f (range_with_len a n)) ≡ false
   any-none a zero none = refl
   any-none a (suc n) none =
-      ap (λ (b : Bool). b || list_any p (map f (range_with_len (a + 1) n)))
-      (none a (omega arith) (omega arith))
-      ∙ any-none (a + 1) n (λ k low high. none k (omega arith) (omega arith))
+      grind (arith, (any-none (a + 1) n (λ k low high. none k (omega arith) (omega arith))))
 
 -- two tables are one where they agree at each number of a range
 pub same-made : {T : Type 0} (f g : ℕ → T) (a n : ℕ) → ((k : ℕ) → k < a + n → f k ≡ g k) →
     map f (range_with_len a n) ≡ map g (range_with_len a n)
 same-made f g a zero same = refl
 same-made f g a (suc n) same =
-    let here = same a (omega arith) in
-    let rest = same-made f g (a + 1) n (λ k below. same k (omega arith)) in
-    λ i. here i ∷ rest i
+    grind (arith, (same-made f g (a + 1) n (λ k below. same k (omega arith))))

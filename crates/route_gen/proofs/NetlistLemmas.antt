@@ -1,7 +1,7 @@
 -- A generated netlist has no fault, and reads as the netlist of its blocks.
-use Rattle.std.proofs.Common.{◌≡◌, ◌⊎◌, ℕ, zero, suc, ◌+◌, ◌*◌, ◌<◌, ◌≤◌, ◌^◌, Bool, true, false, cond, Option, Some, None, List, [], ◌∷◌, ◌++◌, length, refl, sym, ap, subst, ◌∙◌, inl, inr, arith, get_or, zero-add, length-append}
-use Rattle.std.specs.Prelude.{All, bytes_eq, filter, filter_map, flat_map, fold, if◌then◌else◌, map, nat_lt, not, ◌&&◌, ◌||◌, ◌==◌, option_map, option_to_list, slice_get}
-use Rattle.std.specs.List.{cons_option, list_any, range_with_len}
+use Rattle.std.proofs.Common.{rules, ◌≡◌, ◌⊎◌, ℕ, zero, suc, ◌+◌, ◌*◌, ◌<◌, ◌≤◌, ◌^◌, Bool, true, false, cond, Option, Some, None, List, [], ◌∷◌, ◌++◌, length, refl, sym, ap, subst, ◌∙◌, inl, inr, arith, get_or, zero-add, length-append}
+use Rattle.std.specs.Prelude.{All, bytes_eq, filter, filter_map, flat_map, fold, if◌then◌else◌, map, nat_lt, not, ◌&&◌, ◌==◌, option_map, option_to_list, slice_get}
+use Rattle.std.specs.List.{list_any, range_with_len}
 use Rattle.std.specs.Option.{option_or}
 use Rattle.std.proofs.lemmas.Bool.{le-ltb, lt-ltb, ne_eqb}
 use Rattle.std.proofs.lemmas.List.{length-map, map-id}
@@ -19,11 +19,10 @@ use Rattle.fpga_text.specs.declared.style.Style.TheVariants.{Joined}
 use Rattle.fpga_text.specs.Bytes.{Bytes, is_empty}
 use Rattle.fpga_text.specs.Codes.{Codes, end_fault, faults_from, line_fault}
 use Rattle.fpga_text.specs.FirstFault.{first_fault}
-use Rattle.fpga_text.specs.Said.{has_text}
 use Rattle.fpga_text.specs.Words.{TextLine, line_count, text_lines}
 use Rattle.fpga_text.proofs.PrintedLines.{numbered}
 use Rattle.fpga_net.specs.Codes.{Context, before_all, behind, drives_again, forms_of, globals_of, has_pair, is_driven_twice, lines_faults, net_codes, net_count, numbered_forms, share_class, takes_ordinary}
-use Rattle.fpga_net.specs.Forms.{Form, Begins, Pinlist, globals_in, made_global}
+use Rattle.fpga_net.specs.Forms.{Form, Begins, Pinlist, globals_in}
 use Rattle.fpga_net.specs.Names.{AreApart, first_seen}
 use Rattle.fpga_net.specs.Uses.{Use, block_uses, drivers, nets_of, on_net, uses_of}
 use Rattle.fpga_net.specs.Uses.{sinks as ends_of}
@@ -31,11 +30,10 @@ use Rattle.fpga_net.specs.Value.{ReadsNet, block_of, net_of, net_on, netlist_bef
 use Rattle.fpga_net.specs.Value.{netlist_of as value_of}
 use Rattle.fpga_net.proofs.LineLemmas.{by_context}
 use Rattle.fpga_net.proofs.NameLemmas.{first_seen-apart, has_text-first_seen}
-use Rattle.fpga_net.specs.declared.limits.TheConstants.{BLOCK_LIMIT}
 use Rattle.list_laws.proofs.Members.{In, In-filter_map, In-flat_map, In-list_any, In-map, In-range, all-from_In, contains-In, from_In-filter, from_In-filter_map, from_In-flat_map, from_In-map, list_any-from_In}
 use Rattle.list_laws.proofs.Places.{get-there, some_is}
 use Rattle.route_gen.specs.Draws.{input_table, nets_into, sinks_of}
-use Rattle.route_gen.specs.Laws.{HasBlocks, HasNets, IsDrawn, architecture_of_all, bottom_pin, drawn_net, input_at, listed_block, netlist_of_all, netlist_to, pin_words}
+use Rattle.route_gen.specs.Laws.{HasBlocks, HasNets, IsDrawn, architecture_of_all, bottom_pin, drawn_net, input_at, netlist_of_all, netlist_to, pin_words}
 use Rattle.route_gen.specs.Netlists.{block_name, generated_netlist, net_name, netlist_of}
 use Rattle.route_gen.specs.declared.draws.Sink.{Sink}
 use Rattle.route_gen.specs.declared.draws.TheConstants.{INPUT_COUNT}
@@ -79,12 +77,7 @@ seen-in (first ∷ names) name i = elim i [
 made-count : {T : Type 0} (f : ℕ → Option T) (a n : ℕ) →
     length (filter_map f (range_with_len a n)) ≤ n
 made-count f a zero = omega arith
-made-count {T} f a (suc n) = go (f a) (made-count f (a + 1) n)
-  where
-    go : (o : Option T) → length (filter_map f (range_with_len (a + 1) n)) ≤ n →
-        length (cons_option o (filter_map f (range_with_len (a + 1) n))) ≤ suc n
-    go None rest = omega arith
-    go (Some x) rest = omega arith
+made-count {T} f a (suc n) = grind (arith, (made-count f (a + 1) n))
 
 -- no two things that are made are related
 pair-made : {T : Type 0} (related : T → T → Bool) (f : ℕ → Option T) (a n : ℕ) →
@@ -92,18 +85,13 @@ pair-made : {T : Type 0} (related : T → T → Bool) (f : ℕ → Option T) (a 
     related x y ≡ false) →
     has_pair related (filter_map f (range_with_len a n)) ≡ false
 pair-made related f a zero apart = refl
-pair-made {T} related f a (suc n) apart = go (f a) refl
-    (pair-made related f (a + 1) n (λ j k x y less under. apart j k x y less (omega arith)))
-  where
-    rest : List T
-    rest = filter_map f (range_with_len (a + 1) n)
-
-    go : (o : Option T) → f a ≡ o → has_pair related rest ≡ false →
-        has_pair related (cons_option o rest) ≡ false
-    go None is later = later
-    go (Some x) is later =
-        ap (λ (b : Bool). b || has_pair related rest) (any-made (related x) f (a + 1) n
-        (λ k y low high there. apart a k x y (omega arith) (omega arith) is there)) ∙ later
+pair-made {T} related f a (suc n) apart =
+    grind (
+      arith,
+      any-made,
+      (pair-made related f (a + 1) n (λ j k x y less under. apart j k x y less
+          (omega arith))),
+    )
 
 -- no net is global
 abbrev none_global : Bytes → Bool
@@ -125,9 +113,7 @@ record EndsIn (side : ℕ) (sinks : List Sink) (net : ℕ) : Type 0 where
 blocks-are : (nets : ℕ) (sinks : List Sink) (side : ℕ) → netlist_to nets (input_table side sinks)
     ≡ value_of architecture_of_all none_global
     (map (listed nets sinks) (range_with_len 0 (side * side)))
-blocks-are nets sinks side = ap (value_of architecture_of_all none_global) (
-    ap (map (listed_block nets)) (enumerate-made (nets_into sinks) 0 (side * side))
-    ∙ map-map (listed_block nets) (λ k. (k, nets_into sinks k)) (range_with_len 0 (side * side)))
+blocks-are nets sinks side = grind (arith, enumerate-made, map-map)
 
 module _ (nets : ℕ) (sinks : List Sink) (taken : AreTaken sinks) (count : length sinks ≡ nets)
     (few : nets ≤ 10000) where
@@ -179,18 +165,7 @@ module _ (nets : ℕ) (sinks : List Sink) (taken : AreTaken sinks) (count : leng
 
   -- no pin is for global nets
   pins-ordinary : (block : ℕ) → takes_ordinary none_global (row nets sinks block) ≡ false
-  pins-ordinary block = any-made (λ u. u.pin.global && true) (use_at nets sinks block) 0 5
-      (λ pin u low high there.
-      let r = is-use nets sinks taken count block pin u there in
-      ap (λ (v : Use). v.pin.global && true) r.is ∙ spec-ordinary pin)
-    where
-      spec-ordinary : (pin : ℕ) → ((pin_spec pin).global && true) ≡ false
-      spec-ordinary pin = go (nat_lt pin INPUT_COUNT)
-        where
-          go : (b : Bool) → ((if b then bottom_pin INPUT_CLASS false
-              else bottom_pin OUTPUT_CLASS true).global && true) ≡ false
-          go true = refl
-          go false = refl
+  pins-ordinary block = grind (arith, any-made, use_at, is-use, pin_spec)
 
   -- no net is on two pins of one class
   class-once : (block : ℕ) → has_pair (share_class none_global) (row nets sinks block) ≡ false
@@ -296,8 +271,7 @@ module _ (nets : ℕ) (sinks : List Sink) (taken : AreTaken sinks) (count : leng
         ap (λ (n : Bytes). is_empty (on_net n (sought uses))) p.is ∙ there p.net p.below))
 
     driven-all : some_lacks drivers (rows nets sinks (side * side)) ≡ false
-    driven-all = lacks-none drivers (λ net below. ap is_empty
-        (driver-one nets sinks taken count few net (side * side) below (omega arith)))
+    driven-all = grind (arith, lacks-none, driver-one)
 
     ended-all : some_lacks ends_of (rows nets sinks (side * side)) ≡ false
     ended-all = lacks-none ends_of (λ net below. let e = end-there net below in ap is_empty
@@ -344,35 +318,20 @@ module _ (nets : ℕ) (sinks : List Sink) (taken : AreTaken sinks) (count : leng
     begin-clean : (logic : Bool) (block number : ℕ) → block < side * side →
         line_fault codes_here (after logic block) number (begin_form block) ≡ None
     begin-clean logic block number below =
-        let new : has_text (map block_name (range_with_len 0 block)) (block_name block) ≡ false
-        = any-none (λ other. bytes_eq other (block_name block)) block_name 0 block
-        (λ k low high. name-other k block (omega arith) (omega arith)
-        (λ same. omega (arith, same, high))) in
-        let long = length-map-range_with_len block_name 0 block in
-        let short : (length (map block_name (range_with_len 0 block)) == BLOCK_LIMIT) ≡ false
-        = ne_eqb (length (map block_name (range_with_len 0 block))) BLOCK_LIMIT
-        (λ same. omega (arith, same, long)) in
-        λ i. if new i then Some (Bad number 203)
-        else option_or (option_map (λ n. Limit 209 n)
-        (if short i then Some (BLOCK_LIMIT + 1) else None)) None
+        grind (arith, any-none, name-other, length-map-range_with_len, ne_eqb)
 
     -- the nets of its pinlist
     own-is : (block : ℕ) → block_uses architecture_of_all
         (length (map (listed nets sinks) (range_with_len 0 block))) (listed nets sinks block)
         ≡ row nets sinks block
-    own-is block =
-        ap (λ (n : ℕ). block_uses architecture_of_all n (listed nets sinks block))
-        (length-map-range_with_len (listed nets sinks) 0 block)
-        ∙ row-is nets sinks block
+    own-is block = grind (arith, listed, length-map-range_with_len, row-is)
 
     all-are : (block : ℕ) →
         uses_of architecture_of_all (map (listed nets sinks) (range_with_len 0 block))
         ++ block_uses architecture_of_all
         (length (map (listed nets sinks) (range_with_len 0 block))) (listed nets sinks block)
         ≡ rows nets sinks (block + 1)
-    all-are block =
-        (λ i. rows-are nets sinks block i ++ own-is block i)
-        ∙ sym (made-more (row nets sinks) block)
+    all-are block = grind (arith, rows-are, own-is, made-more, row)
 
     -- its pinlist has no fault
     pins-clean : (logic : Bool) (block number : ℕ) → block < side * side →
@@ -396,14 +355,7 @@ module _ (nets : ℕ) (sinks : List Sink) (taken : AreTaken sinks) (count : leng
     -- the end has no fault
     end-clean : (logic : Bool) (end : ℕ) →
         end_fault codes_here (after logic (side * side)) end ≡ None
-    end-clean logic end =
-        let all = rows-are nets sinks (side * side) in
-        let driven = driven-all in
-        let ended = ended-all in
-        (λ i. if some_lacks drivers (all i) then Some (Bad end 204)
-        else if some_lacks ends_of (all i) then Some (Bad end 205) else None)
-        ∙ (λ i. if driven i then Some (Bad end 204)
-        else if ended i then Some (Bad end 205) else None)
+    end-clean logic end = search (rules, rows-are, driven-all, ended-all)
 
     small : AreSmall nets sinks
     small = record {
@@ -444,10 +396,14 @@ module _ (nets : ℕ) (sinks : List Sink) (taken : AreTaken sinks) (count : leng
         globals_in (forms_of (lines_from number block blocks)) ≡ []
     no-globals block zero number below = refl
     no-globals block (suc blocks) number below =
-        let begin = begin-says nets sinks small block (omega arith) in
-        let pins = pins-says nets sinks small block in
-        let rest = no-globals (block + 1) blocks (number + 1 + 1) (omega arith) in
-        λ i. made_global (begin i) ++ (made_global (pins i) ++ rest i)
+        grind (
+          arith,
+          begin-says,
+          small,
+          pins-says,
+          (no-globals (block + 1) blocks (number + 1 + 1)
+              (omega arith)),
+        )
 
     -- what they say
     blocks-value : (logic : Bool) (block blocks number : ℕ) → block + blocks ≡ side * side →
@@ -455,10 +411,7 @@ module _ (nets : ℕ) (sinks : List Sink) (taken : AreTaken sinks) (count : leng
         (forms_of (lines_from number block blocks)))
         ≡ value_of architecture_of_all none_global
         (map (listed nets sinks) (range_with_len 0 (side * side)))
-    blocks-value logic block zero number is =
-        let last : block ≡ side * side = omega (arith, is) in
-        ap (λ (n : ℕ). value_of architecture_of_all none_global
-        (map (listed nets sinks) (range_with_len 0 n))) last
+    blocks-value logic block zero number is = grind (arith, listed)
     blocks-value logic block (suc blocks) number is =
         let more = forms_of (lines_from (number + 1 + 1) (block + 1) blocks) in
         let begin = begin-says nets sinks small block (omega (arith, is)) in
@@ -528,8 +481,7 @@ module _ (nets : ℕ) (sinks : List Sink) (taken : AreTaken sinks) (count : leng
         let uses = rows nets sinks (side * side) in
         let names = map (λ (u : Use). u.net) uses in
         let there : use_at nets sinks net OUTPUT_PIN ≡ Some (use_on net OUTPUT_PIN net)
-        = ap (λ (b : Bool). option_map (use_on net OUTPUT_PIN) (if b then Some net else None))
-        (lt-ltb net nets below) in
+        = grind (arith, use_on, lt-ltb) in
         let used : In names (net_name net) = In-map (λ (u : Use). u.net) uses
         (use_on net OUTPUT_PIN net) (In-flat_map (row nets sinks)
         (range_with_len 0 (side * side)) net (use_on net OUTPUT_PIN net)

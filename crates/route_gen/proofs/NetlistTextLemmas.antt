@@ -1,6 +1,6 @@
 -- The lines of a generated netlist, and what they say.
-use Rattle.std.proofs.Common.{◌≡◌, ℕ, zero, suc, ◌+◌, ◌<◌, ◌^◌, Bool, true, false, Option, Some, None, List, [], ◌∷◌, ◌++◌, take, refl, sym, ap, subst, ◌∙◌, inl, inr, arith, append_assoc}
-use Rattle.std.specs.Prelude.{All, codes, decimal, filter, flat_map, nat_lt, if◌then◌else◌, map, not, ◌&&◌, slice_get}
+use Rattle.std.proofs.Common.{◌≡◌, ℕ, zero, suc, ◌+◌, ◌<◌, ◌^◌, Bool, true, false, Option, Some, None, List, [], ◌∷◌, ◌++◌, take, refl, ap, subst, ◌∙◌, inl, inr, arith, append_assoc}
+use Rattle.std.specs.Prelude.{All, codes, decimal, filter, flat_map, map, not, ◌&&◌, slice_get}
 use Rattle.std.specs.List.{enumerate_from, last_or, list_all, range_with_len}
 use Rattle.std.specs.Option.{option_map_or}
 use Rattle.std.proofs.lemmas.Bool.{and_from, ltb-true}
@@ -8,8 +8,8 @@ use Rattle.std.proofs.lemmas.List.{append-nil, map-id}
 use Rattle.std.proofs.lemmas.List.Elements.{All-tail}
 use Rattle.fpga_types.specs.declared.netlist.BlockKind.TheVariants.{Logic}
 use Rattle.fpga_text.specs.declared.style.Style.TheVariants.{Joined}
-use Rattle.fpga_text.specs.Bytes.{Bytes, is_empty, is_hash, is_newline}
-use Rattle.fpga_text.specs.Joined.{goes_on, is_backslash, trimmed}
+use Rattle.fpga_text.specs.Bytes.{Bytes, is_empty, is_newline}
+use Rattle.fpga_text.specs.Joined.{goes_on, is_backslash}
 use Rattle.fpga_text.specs.Words.{TextLine, Words, joined, part_line, put_before, text_lines, words}
 use Rattle.fpga_text.proofs.JoinedLemmas.{said_part-alone}
 use Rattle.fpga_text.proofs.PrintedLines.{before_first-none, ended, lines-ended, numbered, said, said-line, seen-all}
@@ -19,7 +19,7 @@ use Rattle.list_laws.proofs.Members.{In, In-all, all-from_In, from_In-flat_map, 
 use Rattle.list_laws.proofs.Rows.{rows-map, rows-rows}
 use Rattle.route_gen.specs.Draws.{nets_into}
 use Rattle.route_gen.specs.Laws.{pin_words}
-use Rattle.route_gen.specs.Netlists.{block_lines, block_name, driven, input_word, input_words, netlist_of, pin_word}
+use Rattle.route_gen.specs.Netlists.{block_name, driven, input_word, input_words, netlist_of, pin_word}
 use Rattle.route_gen.specs.declared.draws.Sink.{Sink}
 use Rattle.route_gen.specs.declared.draws.TheConstants.{INPUT_COUNT}
 use Rattle.route_gen.proofs.ReadingLemmas.{name-word}
@@ -44,10 +44,7 @@ last-plain o (b ∷ bytes) (suc n) plain none =
 
 goes_on-plain : (raw : Bytes) → list_all is_line_byte raw ≡ true → lacks is_backslash raw ≡ true →
     goes_on raw ≡ false
-goes_on-plain raw line plain =
-    ap (λ (t : Bytes). option_map_or is_backslash (last_or None (trimmed t)) false)
-    (before_first-none is_hash raw (line-hash raw line))
-    ∙ last-plain None raw _ refl plain
+goes_on-plain raw line plain = grind (arith, before_first-none, line-hash, last-plain)
 
 -- a line that stands alone
 pub record IsAlone (raw : Bytes) : Type 0 where
@@ -93,25 +90,7 @@ module _ (nets : ℕ) (sinks : List Sink) where
       netlist_of nets (map (nets_into sinks) (range_with_len 0 count))
       ≡ flat_map (λ raw. ended raw) (texts_from 0 count)
   text-lines count =
-      ap (flat_map (block_lines nets)) (enumerate-made (nets_into sinks) 0 count)
-      ∙ rows-map (block_lines nets) (λ b. (b, nets_into sinks b)) (range_with_len 0 count)
-      ∙ (λ i. flat_map (λ block. two block i) (range_with_len 0 count))
-      ∙ sym (rows-rows (λ raw. ended raw) block_texts (range_with_len 0 count))
-    where
-      two : (block : ℕ) → block_lines nets (block, nets_into sinks block)
-          ≡ flat_map (λ raw. ended raw) (block_texts block)
-      two block =
-          let start = codes ".clb " ++ block_name block in
-          let ends = input_words (nets_into sinks block) in
-          let out = pin_word (driven nets block) in
-          let next = codes "\npinlist: " in
-          append_assoc (start ++ next ++ ends) out (codes "\n")
-          ∙ append_assoc (start ++ next) ends (out ++ codes "\n")
-          ∙ append_assoc start next (ends ++ (out ++ codes "\n"))
-          ∙ ap (λ (t : Bytes). start ++ (next ++ t)) (sym (append-nil (ends ++ out ++ codes "\n")
-          ∙ append_assoc ends out (codes "\n")))
-          ∙ sym (append_assoc start (codes "\n")
-          (codes "pinlist: " ++ (ends ++ out) ++ codes "\n" ++ []))
+      grind (arith, enumerate-made, rows-map, rows-rows, ended, append_assoc, append-nil)
 
 -- the pins of a block are on nets with numbers of 64 bits
 pub record AreSmall (nets : ℕ) (sinks : List Sink) : Type 0 where
@@ -124,13 +103,7 @@ pin-word None fits = record { some = refl; bytes = refl }
 pin-word (Some n) fits = name-word n (fits n refl)
 
 pub driven-below : (nets block n : ℕ) → driven nets block ≡ Some n → n < nets
-driven-below nets block n is = go (nat_lt block nets) refl is
-  where
-    go : (b : Bool) → nat_lt block nets ≡ b → (if b then Some block else None) ≡ Some n → n < nets
-    go true below same =
-        let e : block ≡ n = cc in
-        let l = ltb-true block nets below in omega arith
-    go false below same = cc
+driven-below nets block n is = grind (arith, ltb-true)
 
 -- what a byte of a word passes, the words of inputs pass with the blanks between them
 inputs-pass : (p : ℕ → Bool) (ends pins : List ℕ) →
@@ -138,10 +111,7 @@ inputs-pass : (p : ℕ → Bool) (ends pins : List ℕ) →
     list_all p (flat_map (input_word ends) pins) ≡ true
 inputs-pass p ends [] word blank = refl
 inputs-pass p ends (pin ∷ pins) word blank =
-    both-pass p (input_word ends pin) (flat_map (input_word ends) pins)
-    (both-pass p (pin_word (slice_get ends pin)) (codes " ") (word pin)
-    (and_from (p 32) true blank refl))
-    (inputs-pass p ends pins word blank)
+    grind (arith, both-pass, and_from, (inputs-pass p ends pins word blank))
 
 -- the byte is no backslash
 abbrev pub is_plain : ℕ → Bool
@@ -162,8 +132,7 @@ module _ (nets : ℕ) (sinks : List Sink) (small : AreSmall nets sinks) where
       pin-word (slice_get (nets_into sinks block) pin) (small.ends block pin)
 
   out-small : (block n : ℕ) → driven nets block ≡ Some n → n < 2 ^ 64
-  out-small block n is =
-      let below = driven-below nets block n is in let few = small.limit in omega arith
+  out-small block n is = grind (arith, driven-below)
 
   out-word : (block : ℕ) → IsWord (pin_word (driven nets block))
   out-word block = pin-word (driven nets block) (out-small block)
@@ -192,13 +161,17 @@ module _ (nets : ℕ) (sinks : List Sink) (small : AreSmall nets sinks) where
 
   -- each is a line that stands alone
   begin-alone : (block : ℕ) → block < 2 ^ 64 → IsAlone (begin_text nets sinks block)
-  begin-alone block fits = record {
-    line = both-pass is_line_byte (codes ".clb b") (decimal block) refl
-        (word-line (decimal block) (decimal-word block fits).bytes);
-    plain = both-pass is_plain (codes ".clb b") (decimal block) refl (decimal-pass is_plain
-        (λ c least most. ap not (digit-differs 92 c least most (inr (omega arith)))) block fits);
-    some = ap is_empty (begin-words block fits);
-  }
+  begin-alone block fits =
+      grind (
+        arith,
+        both-pass,
+        is_line_byte,
+        word-line,
+        decimal-word,
+        decimal-pass,
+        digit-differs,
+        begin-words,
+      )
 
   pins-alone : (block : ℕ) → IsAlone (pins_text nets sinks block)
   pins-alone block =

@@ -1,7 +1,7 @@
 -- Which net is on which pin of a generated problem.
 use Rattle.std.proofs.Common.{◌≡◌, ◌≢◌, ◌⊎◌, ℕ, ◌<◌, ◌≤◌, Bool, true, false, Option, Some, None, List, [], ◌∷◌, length, refl, sym, ap, ◌∙◌, inl, inr, arith}
 use Rattle.std.specs.Prelude.{bytes_eq, filter, filter_map, flat_map, if◌then◌else◌, map, nat_lt, not, ◌&&◌, option_map, slice_get}
-use Rattle.std.specs.List.{cons_option, range_with_len}
+use Rattle.std.specs.List.{range_with_len}
 use Rattle.std.proofs.lemmas.Bool.{and_from, le-ltb, lt-ltb, ltb-false, ltb-true}
 use Rattle.std.proofs.lemmas.Option.{slice_get_within}
 use Rattle.fpga_types.specs.declared.arch.PinSpec.{PinSpec}
@@ -63,21 +63,12 @@ module _ (nets : ℕ) (sinks : List Sink) where
 
   -- a pinlist puts these nets on its pins
   pub row-is : (block : ℕ) → block_uses architecture_of_all block (listed block) ≡ row block
-  row-is block =
-      let input = bottom_pin INPUT_CLASS false in
-      let end = λ (pin : ℕ). use-word block pin input (slice_get (nets_into sinks block) pin) in
-      λ i. cons_option (end 0 i) (cons_option (end 1 i) (cons_option (end 2 i)
-      (cons_option (end 3 i) (cons_option
-      (use-word block 4 (bottom_pin OUTPUT_CLASS true) (driven nets block) i) []))))
+  row-is block = grind (arith, use-word)
 
   -- the pinlists of the first blocks put these
   pub rows-are : (count : ℕ) →
       uses_of architecture_of_all (map listed (range_with_len 0 count)) ≡ rows count
-  rows-are count =
-      let made = λ (b : ℕ × ListedBlock). block_uses architecture_of_all b.0 b.1 in
-      ap (flat_map made) (enumerate-made listed 0 count)
-      ∙ rows-map made (λ k. (k, listed k)) (range_with_len 0 count)
-      ∙ rows-alike (λ k. made (k, listed k)) row (range_with_len 0 count) (λ k i. row-is k)
+  rows-are count = grind (arith, enumerate-made, rows-map, rows-alike, row-is)
 
 -- the net ends at that input, or the block of its number drives it
 pub record EndsAt (nets : ℕ) (sinks : List Sink) (block pin net : ℕ) : Type 0 where

@@ -1,21 +1,20 @@
 -- The placement of a generated problem has no fault, and reads as the places of its blocks.
-use Rattle.std.proofs.Common.{◌≡◌, ℕ, zero, suc, ◌+◌, ◌*◌, ◌<◌, ◌≤◌, ◌^◌, Bool, true, false, Option, Some, None, List, [], ◌∷◌, ◌++◌, refl, sym, ap, ◌∙◌, inl, inr, arith, append_assoc, zero-add}
-use Rattle.std.specs.Prelude.{All, bytes_eq, codes, decimal, flat_map, is_none, map, nat_le, nat_lt, not, ◌&&◌, unwrap_or, option_and_then, option_map, if◌then◌else◌}
+use Rattle.std.proofs.Common.{rules, ◌≡◌, ℕ, zero, suc, ◌+◌, ◌*◌, ◌<◌, ◌≤◌, ◌^◌, Bool, true, false, Option, Some, None, List, [], ◌∷◌, ◌++◌, refl, sym, ap, ◌∙◌, inl, inr, arith, append_assoc, zero-add}
+use Rattle.std.specs.Prelude.{All, bytes_eq, codes, decimal, flat_map, map, not, unwrap_or, if◌then◌else◌}
 use Rattle.std.specs.List.{list_all, list_any, range_with_len}
-use Rattle.std.specs.Option.{option_map_or, option_or}
+use Rattle.std.specs.Option.{option_or}
 use Rattle.std.proofs.lemmas.Simd.{map-map}
 use Rattle.std.proofs.lemmas.Bool.{and_from, cases_eq, le-leb, le-ltb, lt-ltb}
 use Rattle.std.proofs.lemmas.List.Elements.{All-cons, All-nil}
 use Rattle.std.proofs.lemmas.List.FromFn.{map-range_with_len_more}
 use Rattle.list_laws.proofs.Members.{In-map, In-range, all-from_In, from_In-range, list_any-from_In}
-use Rattle.fpga_types.specs.Places.{is_lawful, same_spot, spot_of}
+use Rattle.fpga_types.specs.Places.{is_lawful, spot_of}
 use Rattle.fpga_types.specs.declared.arch.Arch.{Arch}
 use Rattle.fpga_types.specs.declared.limits.TheConstants.{SIDE_LIMIT}
 use Rattle.fpga_types.specs.declared.netlist.Block.{Block as BlockOf}
 use Rattle.fpga_types.specs.declared.netlist.BlockKind.TheVariants.{Logic}
 use Rattle.fpga_types.specs.declared.netlist.Netlist.{Netlist}
-use Rattle.fpga_types.specs.declared.placement.Place.{Place}
-use Rattle.fpga_text.specs.declared.fault.TextFault.TheVariants.{Bad, Limit}
+use Rattle.fpga_text.specs.declared.fault.TextFault.TheVariants.{Bad}
 use Rattle.fpga_text.specs.declared.style.Style.TheVariants.{Hash}
 use Rattle.fpga_text.specs.ArrayLine.{size_words}
 use Rattle.fpga_text.specs.Bytes.{Bytes, is_empty, is_newline}
@@ -26,7 +25,7 @@ use Rattle.fpga_text.proofs.LineLemmas.{lines-next}
 use Rattle.fpga_text.proofs.PrintedLines.{ended, lines-ended, numbered, said, said-line, seen, seen-all, seen-line}
 use Rattle.fpga_text.proofs.PrintedWords.{IsWord, both-pass, decimal-word, is_line_byte, lacks, lacks-each, line-newline, whole_number_of-decimal, word-line, words-end, words-word}
 use Rattle.fpga_place.specs.Blocks.{block_named, has_name}
-use Rattle.fpga_place.specs.Codes.{Setting, context_of, grid_in, is_misplaced, lacks_line, names, place_codes, place_faults, setting_of, spot_on, takes_spot}
+use Rattle.fpga_place.specs.Codes.{Setting, context_of, grid_in, lacks_line, names, place_codes, place_faults, setting_of}
 use Rattle.fpga_place.specs.Lines.{Form, Files, Array, Block, block_form, block_forms, forms, place_at, small_number_of}
 use Rattle.fpga_place.specs.Lines.{said as forms_said}
 use Rattle.fpga_place.specs.Value.{Reads, place_named, place_value, value_of}
@@ -83,9 +82,7 @@ module _ (side : ℕ) (some : 1 ≤ side) (limit : side ≤ SIDE_LIMIT) where
     row : (location_of side block).row ≤ side
 
   small : (block : ℕ) → block < side * side → IsSmall block
-  small block below =
-      let most = few in let row = row_within side block some below in
-      record { number = omega arith; column = omega arith; row = omega arith }
+  small block below = grind (arith, few, row_within)
 
   -- the words of a block's line
   block-words : (block : ℕ) → block < side * side → words (block_text side block)
@@ -113,28 +110,11 @@ module _ (side : ℕ) (some : 1 ≤ side) (limit : side ≤ SIDE_LIMIT) where
   block-line : (block : ℕ) → block < side * side →
       list_all is_line_byte (block_text side block) ≡ true
   block-line block below =
-      let s = small block below in
-      let column = s.column in let row = s.row in
-      let c : IsWord (decimal (location_of side block).column)
-      = decimal-word (location_of side block).column (omega arith) in
-      let r : IsWord (decimal (location_of side block).row)
-      = decimal-word (location_of side block).row (omega arith) in
-      both-pass is_line_byte (block_name block) (codes " "
-      ++ (decimal (location_of side block).column
-      ++ (codes " " ++ (decimal (location_of side block).row ++ codes " 0"))))
-      (word-line (block_name block) (block-word block s.number).bytes)
-      (both-pass is_line_byte (decimal (location_of side block).column)
-      (codes " " ++ (decimal (location_of side block).row ++ codes " 0"))
-      (word-line (decimal (location_of side block).column) c.bytes)
-      (both-pass is_line_byte (decimal (location_of side block).row) (codes " 0")
-      (word-line (decimal (location_of side block).row) r.bytes) refl))
+      grind (arith, small, IsWord, decimal-word, both-pass, is_line_byte, word-line, block-word)
 
   -- what it says
   small-number : (n : ℕ) → n ≤ side → small_number_of (decimal n) ≡ Some n
-  small-number n below =
-      (λ i. option_and_then (λ m. if nat_lt m (2 ^ 32) then Some m else None)
-      (whole_number_of-decimal n (omega arith) i))
-      ∙ ap (λ (b : Bool). if b then Some n else None) (lt-ltb n (2 ^ 32) (omega arith))
+  small-number n below = grind (arith, whole_number_of-decimal, lt-ltb)
 
   block-says : (block : ℕ) → block < side * side →
       block_form (said Hash (block_text side block)) ≡ block_said side block
@@ -161,60 +141,30 @@ module _ (side : ℕ) (some : 1 ≤ side) (limit : side ≤ SIDE_LIMIT) where
 
     -- the array is said
     grid-said : (block : ℕ) → grid_in (before side block) ≡ Some (record { nx = side; ny = side })
-    grid-said block = λ i. option_or (option_and_then
-        (λ nx. option_map (λ ny. record { nx = nx; ny = ny })
-        (whole_number_of-decimal side (omega arith) i))
-        (whole_number_of-decimal side (omega arith) i))
-        (grid_in (map (block_said side) (range_with_len 0 block)))
+    grid-said block = grind (arith, whole_number_of-decimal)
 
     -- no earlier line has its name
     new-name : (block : ℕ) → block < side * side →
         (context_of setting (before side block)).has_line (block_name block) ≡ false
-    new-name block below =
-        let most = few in
-        any-none (names (block_name block)) (block_said side) 0 block
-        (λ k low high. name-other k block (omega arith) (omega arith)
-        (λ same. omega (arith, same, high)))
+    new-name block below = grind (arith, few, any-none, name-other)
 
     -- or its spot
     new-spot : (block : ℕ) → block < side * side →
         (context_of setting (before side block)).is_taken (spot_of Logic (place_of side block))
         ≡ false
-    new-spot block below =
-        any-none (takes_spot setting (spot_of Logic (place_of side block))) (block_said side)
-        0 block
-        (λ k low high.
-        ap (λ (o : Option BlockOf). option_map_or
-        (same_spot (spot_of Logic (place_of side block)))
-        (spot_on o (Some (place_of side k))) false) (known k (omega arith))
-        ∙ place-other side block k some (λ same. omega (arith, same, high)))
+    new-spot block below = grind (arith, any-none, known, place-other)
 
     -- its place is lawful
     lawful : (block : ℕ) → block < side * side →
         is_lawful (record { nx = side; ny = side }) setting.io_rat Logic (place_of side block)
         ≡ true
-    lawful block below =
-        let s = small block below in
-        let column = s.column in let row = s.row in
-        let x = (location_of side block).column in let y = (location_of side block).row in
-        and_from (nat_le 1 x && nat_le x side) (nat_le 1 y && nat_le y side)
-        (and_from (nat_le 1 x) (nat_le x side) (le-leb 1 x (omega arith)) (le-leb x side column))
-        (and_from (nat_le 1 y) (nat_le y side) (le-leb 1 y (omega arith)) (le-leb y side row))
+    lawful block below = grind (arith, small, and_from, le-leb)
 
     -- its line has no fault
     block-clean : (block number : ℕ) → block < side * side →
         line_fault (place_codes setting) (context_of setting (before side block)) number
         (block_said side block) ≡ None
-    block-clean block number below =
-        let found = known block below in
-        (λ i. if is_none (found i) then Some (Bad number 303)
-        else if new-name block below i then Some (Bad number 304)
-        else if is_misplaced setting.io_rat (grid-said block i) (found i)
-        (Some (place_of side block)) then Some (Bad number 306)
-        else if option_map_or (context_of setting (before side block)).is_taken
-        (spot_on (found i) (Some (place_of side block))) false then Some (Bad number 307) else None)
-        ∙ (λ i. if not (lawful block below i) then Some (Bad number 306)
-        else if new-spot block below i then Some (Bad number 307) else None)
+    block-clean block number below = grind (arith, known, new-name, grid-said, lawful, new-spot)
 
     -- the lines of the blocks from one on have no fault
     blocks-clean : (block count number end : ℕ) → block + count ≤ side * side →
@@ -222,10 +172,7 @@ module _ (side : ℕ) (some : 1 ≤ side) (limit : side ≤ SIDE_LIMIT) where
         (numbered Hash number (map (block_text side) (range_with_len block count)))) end)
         ≡ first_fault (end_fault (place_codes setting)
         (context_of setting (before side (block + count))) end ∷ [])
-    blocks-clean block zero number end within =
-        let e : block ≡ block + zero = omega arith in
-        ap (λ (n : ℕ). first_fault (end_fault (place_codes setting)
-        (context_of setting (before side n)) end ∷ [])) e
+    blocks-clean block zero number end within = grind arith
     blocks-clean block (suc count) number end within =
         let more = block_forms (numbered Hash (number + 1)
         (map (block_text side) (range_with_len (block + 1) count))) in
@@ -283,33 +230,12 @@ module _ (side : ℕ) (some : 1 ≤ side) (limit : side ≤ SIDE_LIMIT) where
     -- the places that the lines say
     places-said : map (place_found (place_named (before side (side * side)))) setting.blocks
         ≡ map (place_of side) (range_with_len 0 (side * side))
-    places-said =
-        ap (map (place_found (place_named (before side (side * side))))) blocks
-        ∙ map-map (place_found (place_named (before side (side * side)))) (block_on pins)
-        (range_with_len 0 (side * side))
-        ∙ same-made (λ block. unwrap_or (place_named (before side (side * side)) (block_name block))
-        (record { x = 0; y = 0; sub = 0 })) (place_of side) 0 (side * side)
-        (λ block below. ap (λ (o : Option Place). unwrap_or o (record { x = 0; y = 0; sub = 0 }))
-        (named 0 (side * side) block (omega arith) (omega arith) (omega arith)))
+    places-said = grind (arith, map-map, same-made, named)
 
   -- the words of the array line
   array-words : words (array_text side) ≡ codes "Array" ∷ codes "size:" ∷ decimal side ∷ codes "x"
       ∷ decimal side ∷ codes "logic" ∷ codes "blocks" ∷ []
-  array-words =
-      let d : IsWord (decimal side) = decimal-word side (omega arith) in
-      words-word (codes "Array") (codes "size: " ++ (decimal side ++ (codes " x " ++ (decimal side
-      ++ codes " logic blocks")))) (record { some = refl; bytes = refl })
-      ∙ ap (λ (ws : Words). codes "Array" ∷ ws) (
-      words-word (codes "size:") (decimal side ++ (codes " x " ++ (decimal side
-      ++ codes " logic blocks"))) (record { some = refl; bytes = refl })
-      ∙ ap (λ (ws : Words). codes "size:" ∷ ws) (
-      words-word (decimal side) (codes "x " ++ (decimal side ++ codes " logic blocks")) d
-      ∙ ap (λ (ws : Words). decimal side ∷ ws) (
-      words-word (codes "x") (decimal side ++ codes " logic blocks")
-      (record { some = refl; bytes = refl })
-      ∙ ap (λ (ws : Words). codes "x" ∷ ws) (
-      words-word (decimal side) (codes "logic blocks") d
-      ∙ ap (λ (ws : Words). decimal side ∷ ws) refl))))
+  array-words = grind (arith, IsWord, decimal-word, words-word)
 
   -- it is one line without a comment
   array-line : list_all is_line_byte (array_text side) ≡ true
@@ -328,18 +254,7 @@ module _ (side : ℕ) (some : 1 ≤ side) (limit : side ≤ SIDE_LIMIT) where
   size-clean : (setting : Setting) (number : ℕ) →
       line_fault (place_codes setting) (context_of setting (Files true ∷ [])) number
       (Array (Some (record { nx = decimal side; ny = decimal side }))) ≡ None
-  size-clean setting number =
-      let reads = whole_number_of-decimal side (omega arith) in
-      (λ i. if not (option_map_or (nat_lt 0) (reads i) false
-      && option_map_or (nat_lt 0) (reads i) false) then Some (Bad number 302)
-      else option_or (option_map (λ n. Limit 308 n)
-      (if option_map_or (nat_lt SIDE_LIMIT) (reads i) false then reads i
-      else if option_map_or (nat_lt SIDE_LIMIT) (reads i) false then reads i else None)) None)
-      ∙ (λ i. if not (lt-ltb 0 side (omega arith) i && lt-ltb 0 side (omega arith) i)
-      then Some (Bad number 302)
-      else option_or (option_map (λ n. Limit 308 n)
-      (if le-ltb SIDE_LIMIT side limit i then Some side
-      else if le-ltb SIDE_LIMIT side limit i then Some side else None)) None)
+  size-clean setting number = grind (arith, whole_number_of-decimal, lt-ltb, le-ltb)
 
   -- the lines of the blocks
   blocks-lines : lines (flat_map (place_line side) (range_with_len 0 (side * side)))
@@ -423,9 +338,7 @@ module _ (side : ℕ) (some : 1 ≤ side) (limit : side ≤ SIDE_LIMIT) where
       ≡ map (block_said side) (range_with_len first count)
   blocks-forms first zero number within = refl
   blocks-forms first (suc count) number within =
-      let here = block-says first (omega arith) in
-      let rest = blocks-forms (first + 1) count (number + 1) (omega arith) in
-      λ i. here i ∷ rest i
+      grind (arith, block-says, (blocks-forms (first + 1) count (number + 1) (omega arith)))
 
   -- the text reads as the placement of the blocks
   placement-value : (netlist : Netlist) → HasBlocks side netlist →
@@ -446,5 +359,4 @@ module _ (side : ℕ) (some : 1 ≤ side) (limit : side ≤ SIDE_LIMIT) where
 pub placement-reads : (arch : Arch) (netlist : Netlist) (side : ℕ) → 1 ≤ side →
     side ≤ SIDE_LIMIT → HasBlocks side netlist →
     Reads arch netlist (generated_placement side) (placement_of side)
-placement-reads arch netlist side some limit has =
-    (placement-clean side some limit arch netlist has, placement-value side some limit netlist has)
+placement-reads arch netlist side some limit has = search (rules, placement-clean, placement-value)

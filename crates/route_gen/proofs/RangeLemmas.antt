@@ -14,10 +14,7 @@ use Rattle.route_gen.specs.Draws.{entry}
 -- a range with one number more
 range-next : (a n : ℕ) → range_with_len a (suc n) ≡ range_with_len a n ++ (a + n) ∷ []
 range-next a zero = let e : a ≡ a + 0 = omega arith in ap (λ (m : ℕ). m ∷ []) e
-range-next a (suc n) =
-    let e : a + 1 + n ≡ a + suc n = omega arith in
-    ap (λ (xs : List ℕ). a ∷ xs) (range-next (a + 1) n
-    ∙ ap (λ (m : ℕ). range_with_len (a + 1) n ++ m ∷ []) e)
+range-next a (suc n) = grind (arith, (range-next (a + 1) n))
 
 pub range-more : (a n : ℕ) → range_with_len a (n + 1) ≡ range_with_len a n ++ (a + n) ∷ []
 range-more a n = ap (range_with_len a) (add-one n) ∙ range-next a n
@@ -25,11 +22,7 @@ range-more a n = ap (range_with_len a) (add-one n) ∙ range-next a n
 -- what the numbers of a range make, and what the next one makes
 pub made-more : {T : Type 0} (f : ℕ → List T) (n : ℕ) →
     flat_map f (range_with_len 0 (n + 1)) ≡ flat_map f (range_with_len 0 n) ++ f n
-made-more {T} f n =
-    let e : 0 + n ≡ n = omega arith in
-    ap (flat_map f) (range-more 0 n) ∙ flat_map-append f (range_with_len 0 n) ((0 + n) ∷ [])
-    ∙ ap (λ (t : List T). flat_map f (range_with_len 0 n) ++ t) (append-nil (f (0 + n)))
-    ∙ ap (λ (m : ℕ). flat_map f (range_with_len 0 n) ++ f m) e
+made-more {T} f n = grind (arith, range-more, flat_map-append, append-nil)
 
 -- where two tables differ at one place alone, the one is the other with that entry put in
 pub entry-put : {T : Type 0} (f g : ℕ → T) (a n i : ℕ) → i < n →
@@ -42,35 +35,26 @@ entry-put {T} f g a (suc n) zero inside same =
   where
     behind : (n b : ℕ) → a < b → map f (range_with_len b n) ≡ map g (range_with_len b n)
     behind zero b above = refl
-    behind (suc n) b above =
-        let here : f b ≡ g b = same b (λ e. omega (arith, e)) in
-        let rest = behind n (b + 1) (omega arith) in
-        λ k. here k ∷ rest k
+    behind (suc n) b above = grind (arith, (behind n (b + 1) (omega arith)))
 entry-put {T} f g a (suc n) (suc i) inside same =
-    let e : a + suc i ≡ a + 1 + i = omega arith in
-    let here : f a ≡ g a = same a (λ e. omega (arith, e)) in
-    let rest = entry-put f g (a + 1) n i (omega arith)
-    (λ j other. same j (λ e. other (omega (arith, e)))) in
-    ap (λ (m : ℕ). f a ∷ slice_set (map f (range_with_len (a + 1) n)) i (g m)) e
-    ∙ (λ k. here k ∷ rest k)
+    grind (
+      arith,
+      (entry-put f g (a + 1) n i (omega arith) (λ j other. same j (λ e. other (omega
+          (arith, e))))),
+    )
 
 -- a text that holds what the first numbers make, and the text with what the next one makes
 pub text_more : {T : Type 0} (f : ℕ → List T) (n : ℕ) (start now next : List T) →
     now ≡ start ++ flat_map f (range_with_len 0 n) → next ≡ now ++ f n →
     next ≡ start ++ flat_map f (range_with_len 0 (n + 1))
-text_more {T} f n start now next front more =
-    more ∙ ap (λ (t : List T). t ++ f n) front
-    ∙ append_assoc start (flat_map f (range_with_len 0 n)) (f n)
-    ∙ ap (λ (t : List T). start ++ t) (sym (made-more f n))
+text_more {T} f n start now next front more = grind (arith, append_assoc, made-more)
 
 -- a row of what the first numbers make, and the row with what the next one makes
 pub row_more : {T : Type 0} (f : ℕ → T) (n : ℕ) (start now next : List T) →
     now ≡ start ++ map f (range_with_len 0 n) → next ≡ now ++ f n ∷ [] →
     next ≡ start ++ map f (range_with_len 0 (n + 1))
 row_more {T} f n start now next front more =
-    more ∙ ap (λ (t : List T). t ++ f n ∷ []) front
-    ∙ append_assoc start (map f (range_with_len 0 n)) (f n ∷ [])
-    ∙ ap (λ (t : List T). start ++ t) (sym (map-range_with_len_more f 0 n n (zero-add n)))
+    grind (arith, append_assoc, map-range_with_len_more, zero-add)
 
 -- what the first elements become, and what the next one becomes
 pub row_next : {A B : Type 0} (f : A → B) (xs : List A) (i : ℕ) (x : A) → slice_get xs i ≡ Some x →
@@ -101,9 +85,7 @@ module _ (p : ℕ → Bool) where
       find p (range_with_len a n) ≡ None
   find-none a zero none = refl
   find-none a (suc n) none =
-      ap (λ (b : Bool). cond b (Some a) (find p (range_with_len (a + 1) n)))
-      (none a (omega arith) (omega arith))
-      ∙ find-none (a + 1) n (λ k low high. none k (omega arith) (omega arith))
+      grind (arith, (find-none (a + 1) n (λ k low high. none k (omega arith) (omega arith))))
 
 -- what the first elements make with their numbers, and what the next one makes
 pub numbered_next : {A B : Type 0} (f : ℕ × A → List B) (xs : List A) (i : ℕ) (x : A) →

@@ -1,5 +1,5 @@
 -- The route of a generated problem reads back.
-use Rattle.std.proofs.Common.{◌≡◌, ℕ, ◌+◌, ◌*◌, ◌<◌, ◌≤◌, ◌^◌, true, false, List, [], ◌∷◌, length, refl, ◌∙◌, arith}
+use Rattle.std.proofs.Common.{rules, ◌≡◌, ℕ, ◌+◌, ◌*◌, ◌<◌, ◌≤◌, ◌^◌, true, false, List, [], ◌∷◌, length, refl, arith}
 use Rattle.std.specs.Prelude.{All, map}
 use Rattle.std.specs.List.{enumerate_from}
 use Rattle.std.proofs.lemmas.List.{length-map}
@@ -12,7 +12,7 @@ use Rattle.fpga_route.proofs.PrintedLemmas.{word-name}
 use Rattle.fpga_route.proofs.ReadBackLemmas.{reads_back}
 use Rattle.route_gen.specs.Draws.{location_of, sinks_of}
 use Rattle.route_gen.specs.Netlists.{net_name}
-use Rattle.route_gen.specs.Routes.{route_net, route_nets, route_to}
+use Rattle.route_gen.specs.Routes.{route_net, route_to}
 use Rattle.route_gen.specs.Traces.{trace}
 use Rattle.route_gen.specs.declared.draws.Sink.{Sink}
 use Rattle.route_gen.proofs.DrawLemmas.{IsInput, drawing-length, sinks-inputs}
@@ -62,20 +62,10 @@ module _ (side : ℕ) (some : 1 ≤ side) (limit : side ≤ SIDE_LIMIT) where
   route-printable : (sinks : List Sink) → length sinks ≤ side * side → All (IsInput side) sinks →
       IsPrintable (route_to side sinks)
   route-printable sinks few all =
-      let blocks = few_blocks in
-      let count : length (route_nets side sinks) ≡ length sinks
-      = length-map (enumerate_from 0 sinks) (route_net side) ∙ length-enumerate_from 0 sinks in
-      record {
-        size = record { nx_above = some; nx_below = limit; ny_above = some; ny_below = limit };
-        limit = omega arith;
-        nets = nets-printable 0 sinks (omega arith) all;
-      }
+      grind (arith, few_blocks, length-map, length-enumerate_from, nets-printable)
 
 -- the route that a seed gives reads back
 pub route-reads : (seed side nets : ℕ) → 1 ≤ side → side ≤ SIDE_LIMIT → nets ≤ side * side →
     ReadsBack (route_to side (sinks_of seed side nets))
 route-reads seed side nets some limit few =
-    let count = drawing-length seed side nets in
-    reads_back (route_to side (sinks_of seed side nets))
-    (route-printable side some limit (sinks_of seed side nets) (omega arith)
-    (sinks-inputs seed side nets some few))
+    search (rules, drawing-length, reads_back, route-printable, sinks-inputs)

@@ -1,5 +1,5 @@
 -- Where so few nets end, a block has a free input.
-use Rattle.std.proofs.Common.{◌≡◌, ℕ, zero, suc, ◌+◌, ◌*◌, ◌<◌, ◌≤◌, ◌==◌, Bool, true, false, List, [], ◌∷◌, length, refl, inl, inr, arith, length-append}
+use Rattle.std.proofs.Common.{◌≡◌, ℕ, zero, suc, ◌+◌, ◌*◌, ◌<◌, ◌≤◌, ◌==◌, Bool, List, [], ◌∷◌, length, refl, arith, length-append}
 use Rattle.std.specs.Prelude.{flat_map, nat_lt, if◌then◌else◌}
 use Rattle.std.specs.List.{enumerate_from}
 use Rattle.std.proofs.lemmas.Bool.{cases_order, eq-eqb, le-ltb, lt-ltb, ne_eqb}
@@ -19,37 +19,13 @@ among (sink ∷ sinks) blocks = one (nat_lt sink.block blocks) + among sinks blo
 -- they are no more than all
 pub among-all : (sinks : List Sink) (blocks : ℕ) → among sinks blocks ≤ length sinks
 among-all [] blocks = omega arith
-among-all (sink ∷ sinks) blocks =
-    let rest = among-all sinks blocks in
-    let here = at_most (nat_lt sink.block blocks) in omega arith
-  where
-    at_most : (b : Bool) → (if b then 1 else 0) ≤ 1
-    at_most true = omega arith
-    at_most false = omega arith
+among-all (sink ∷ sinks) blocks = grind (arith, (among-all sinks blocks))
 
 -- a net ends at the next block, or at one before it, or at none of these
 one-more : (net at block : ℕ) →
     length (if at == block then net ∷ [] else []) + one (nat_lt at block)
     ≡ one (nat_lt at (suc block))
-one-more net at block = elim (cases_order at block) [
-  | inl same ↦
-      let here : (at == block) ≡ true = eq-eqb at block same in
-      let before : nat_lt at block ≡ false = le-ltb at block (omega arith) in
-      let after : nat_lt at (suc block) ≡ true = lt-ltb at (suc block) (omega arith) in
-      rw (here, before, after) refl
-  | inr other ↦ elim other [
-    | inl below ↦
-        let here : (at == block) ≡ false = ne_eqb at block (λ e. omega (arith, e)) in
-        let before : nat_lt at block ≡ true = lt-ltb at block below in
-        let after : nat_lt at (suc block) ≡ true = lt-ltb at (suc block) (omega arith) in
-        rw (here, before, after) refl
-    | inr above ↦
-        let here : (at == block) ≡ false = ne_eqb at block (λ e. omega (arith, e)) in
-        let before : nat_lt at block ≡ false = le-ltb at block (omega arith) in
-        let after : nat_lt at (suc block) ≡ false = le-ltb at (suc block) (omega arith) in
-        rw (here, before, after) refl
-  ]
-]
+one-more net at block = grind (arith, cases_order, eq-eqb, le-ltb, lt-ltb, ne_eqb)
 
 -- those that end at the first blocks, and those that end at the next
 among-next : (net : ℕ) (sinks : List Sink) (block : ℕ) →
@@ -57,11 +33,7 @@ among-next : (net : ℕ) (sinks : List Sink) (block : ℕ) →
     ≡ among sinks (suc block)
 among-next net [] block = refl
 among-next net (sink ∷ sinks) block =
-    let rest = among-next (net + 1) sinks block in
-    let here = one-more net sink.block block in
-    let parts = length-append (ending_at block (net, sink))
-    (flat_map (ending_at block) (enumerate_from (net + 1) sinks)) in
-    omega (arith, rest, here, parts)
+    grind (arith, one-more, length-append, (among-next (net + 1) sinks block))
 
 -- where each of the first blocks is full, so many nets end there
 pub full-among : (sinks : List Sink) (blocks : ℕ) →

@@ -1,6 +1,6 @@
 -- What is kept of rows that are made of the numbers of a range.
 use Rattle.std.proofs.Common.{◌≡◌, ◌≢◌, ℕ, zero, suc, ◌+◌, ◌<◌, ◌≤◌, Bool, true, false, cond, Option, Some, None, List, [], ◌∷◌, ◌++◌, refl, ap, ◌∙◌, inl, inr, arith}
-use Rattle.std.specs.Prelude.{filter, filter_map, flat_map, map, ◌&&◌, ◌||◌}
+use Rattle.std.specs.Prelude.{filter, filter_map, flat_map, map, ◌&&◌}
 use Rattle.std.specs.List.{cons_option, enumerate_from, list_any, range_with_len}
 use Rattle.std.proofs.lemmas.Bool.{cases_eq}
 use Rattle.std.proofs.lemmas.List.{append-nil}
@@ -10,26 +10,13 @@ use Rattle.std.proofs.lemmas.List.Elements.{filter-append}
 pub filter-both : {T : Type 0} (p q : T → Bool) (xs : List T) →
     filter p (filter q xs) ≡ filter (λ x. q x && p x) xs
 filter-both p q [] = refl
-filter-both {T} p q (x ∷ xs) = go (q x) (p x) refl (filter-both p q xs)
-  where
-    go : (a b : Bool) → p x ≡ b →
-        filter p (filter q xs) ≡ filter (λ x. q x && p x) xs →
-        filter p (cond a (x ∷ filter q xs) (filter q xs))
-        ≡ cond (a && b) (x ∷ filter (λ x. q x && p x) xs) (filter (λ x. q x && p x) xs)
-    go true true e rest =
-        ap (λ (c : Bool). cond c (x ∷ filter p (filter q xs)) (filter p (filter q xs))) e
-        ∙ ap (λ (t : List T). x ∷ t) rest
-    go true false e rest =
-        ap (λ (c : Bool). cond c (x ∷ filter p (filter q xs)) (filter p (filter q xs))) e ∙ rest
-    go false b e rest = rest
+filter-both {T} p q (x ∷ xs) = grind (arith, (filter-both p q xs))
 
 -- what passes of rows
 pub filter-rows : {A B : Type 0} (p : B → Bool) (f : A → List B) (xs : List A) →
     filter p (flat_map f xs) ≡ flat_map (λ x. filter p (f x)) xs
 filter-rows p f [] = refl
-filter-rows {A} {B} p f (x ∷ xs) =
-    filter-append p (f x) (flat_map f xs)
-    ∙ ap (λ (t : List B). filter p (f x) ++ t) (filter-rows p f xs)
+filter-rows {A} {B} p f (x ∷ xs) = grind (arith, filter-append, (filter-rows p f xs))
 
 module _ {B : Type 0} (f : ℕ → List B) where
   -- where no number makes anything
@@ -37,9 +24,7 @@ module _ {B : Type 0} (f : ℕ → List B) where
       flat_map f (range_with_len a n) ≡ []
   rows-empty a zero none = refl
   rows-empty a (suc n) none =
-      ap (λ (t : List B). t ++ flat_map f (range_with_len (a + 1) n))
-      (none a (omega arith) (omega arith))
-      ∙ rows-empty (a + 1) n (λ k low high. none k (omega arith) (omega arith))
+      grind (arith, (rows-empty (a + 1) n (λ k low high. none k (omega arith) (omega arith))))
 
   -- where one number alone does
   pub rows-only : (a n k : ℕ) → a ≤ k → k < a + n →
@@ -63,17 +48,8 @@ module _ {T : Type 0} (p : T → Bool) (f : ℕ → Option T) where
       ((k : ℕ) (x : T) → a ≤ k → k < a + n → f k ≡ Some x → p x ≡ false) →
       filter p (filter_map f (range_with_len a n)) ≡ []
   kept-none a zero none = refl
-  kept-none a (suc n) none = go (f a) refl
-      (kept-none (a + 1) n (λ k x low high. none k x (omega arith) (omega arith)))
-    where
-      rest : List T
-      rest = filter_map f (range_with_len (a + 1) n)
-
-      go : (o : Option T) → f a ≡ o → filter p rest ≡ [] → filter p (cons_option o rest) ≡ []
-      go None is later = later
-      go (Some x) is later =
-          ap (λ (b : Bool). cond b (x ∷ filter p rest) (filter p rest))
-          (none a x (omega arith) (omega arith) is) ∙ later
+  kept-none a (suc n) none =
+      grind (arith, (kept-none (a + 1) n (λ k x low high. none k x (omega arith) (omega arith))))
 
   -- where what one number makes passes, and nothing else does
   pub kept-only : (a n k : ℕ) (y : T) → a ≤ k → k < a + n → f k ≡ Some y → p y ≡ true →
@@ -108,21 +84,11 @@ module _ {T : Type 0} (p : T → Bool) (f : ℕ → Option T) where
       ((k : ℕ) (x : T) → a ≤ k → k < a + n → f k ≡ Some x → p x ≡ false) →
       list_any p (filter_map f (range_with_len a n)) ≡ false
   any-made a zero none = refl
-  any-made a (suc n) none = go (f a) refl
-      (any-made (a + 1) n (λ k x low high. none k x (omega arith) (omega arith)))
-    where
-      rest : List T
-      rest = filter_map f (range_with_len (a + 1) n)
-
-      go : (o : Option T) → f a ≡ o → list_any p rest ≡ false →
-          list_any p (cons_option o rest) ≡ false
-      go None is later = later
-      go (Some x) is later =
-          ap (λ (b : Bool). b || list_any p rest) (none a x (omega arith) (omega arith) is) ∙ later
+  any-made a (suc n) none =
+      grind (arith, (any-made (a + 1) n (λ k x low high. none k x (omega arith) (omega arith))))
 
 -- elements that are made of the numbers of a range, with these numbers
 pub enumerate-made : {T : Type 0} (f : ℕ → T) (a n : ℕ) →
     enumerate_from a (map f (range_with_len a n)) ≡ map (λ k. (k, f k)) (range_with_len a n)
 enumerate-made f a zero = refl
-enumerate-made {T} f a (suc n) =
-    ap (λ (t : List (ℕ × T)). (a, f a) ∷ t) (enumerate-made f (a + 1) n)
+enumerate-made {T} f a (suc n) = grind (arith, (enumerate-made f (a + 1) n))

@@ -1,12 +1,12 @@
 -- Where the nets of a generated problem begin and end, by its netlist and its placement.
 use Rattle.std.proofs.Common.{◌≡◌, ℕ, zero, suc, ◌+◌, ◌*◌, ◌<◌, ◌≤◌, Bool, true, false, Option, Some, List, [], ◌∷◌, length, refl, sym, ap, ◌∙◌, inl, inr, arith}
-use Rattle.std.specs.Prelude.{filter_map, map, not, option_and_then, option_map, option_to_list, slice_get, zip, ◌&&◌}
+use Rattle.std.specs.Prelude.{filter_map, map, not, option_and_then, option_to_list, slice_get, zip, ◌&&◌}
 use Rattle.std.specs.List.{cons_option, list_any, range_with_len}
 use Rattle.std.specs.Option.{option_map_or}
 use Rattle.std.proofs.lemmas.Bool.{cases_eq, eq-eqb, false≢true}
-use Rattle.fpga_types.specs.Fits.{agree, is_known}
+use Rattle.fpga_types.specs.Fits.{is_known}
 use Rattle.fpga_types.specs.Problem.{RoutingProblem, problem_of}
-use Rattle.fpga_types.specs.Terminals.{driver_named, driver_of, is_input, is_input_of, is_net_named, net_named, sinks_named, sinks_of, terminal_at, terminal_of}
+use Rattle.fpga_types.specs.Terminals.{driver_named, driver_of, is_input, is_input_of, is_net_named, net_named, sinks_named, sinks_of, terminal_of}
 use Rattle.fpga_types.specs.declared.arch.PinSpec.{PinSpec}
 use Rattle.fpga_types.specs.declared.netlist.Block.{Block}
 use Rattle.fpga_types.specs.declared.netlist.Net.{Net}
@@ -33,14 +33,11 @@ get-made : {T : Type 0} (f : ℕ → T) (a n k : ℕ) → k < n →
     slice_get (map f (range_with_len a n)) k ≡ Some (f (a + k))
 get-made f a zero k below = absurd (omega arith)
 get-made f a (suc n) zero below = let e : a ≡ a + 0 = omega arith in λ i. Some (f (e i))
-get-made f a (suc n) (suc k) below =
-    let e : a + 1 + k ≡ a + suc k = omega arith in
-    get-made f (a + 1) n k (omega arith) ∙ (λ i. Some (f (e i)))
+get-made f a (suc n) (suc k) below = grind (arith, (get-made f (a + 1) n k (omega arith)))
 
 get-first : {T : Type 0} (f : ℕ → T) (n k : ℕ) → k < n →
     slice_get (map f (range_with_len 0 n)) k ≡ Some (f k)
-get-first f n k below =
-    let e : 0 + k ≡ k = omega arith in get-made f 0 n k below ∙ (λ i. Some (f (e i)))
+get-first f n k below = grind (arith, get-made)
 
 zip-made : {A B : Type 0} (f : ℕ → A) (g : ℕ → B) (a n : ℕ) →
     zip (map f (range_with_len a n)) (map g (range_with_len a n))
@@ -79,18 +76,10 @@ module _ (side : ℕ) (sinks : List Sink) (netlist : Netlist) (route : RouteText
       slice_get architecture_of_all.pins pin ≡ Some (bottom_pin class output) →
       terminal_of problem (record { block = block; pin = pin })
       ≡ Some (class_there (location_of side block) class)
-  terminal-there block pin class output below there =
-      let b = ap (λ (bs : List Block). slice_get bs block) blocks.blocks
-      ∙ get-first (block_on blocks.pins) (side * side) block below in
-      let p = get-first (place_of side) (side * side) block below in
-      (λ i. option_and_then (λ (o : Block). option_and_then
-      (terminal_at architecture_of_all o.kind pin) (p i)) (b i))
-      ∙ ap (option_map (λ (spec : PinSpec). class_there (location_of side block) spec.class)) there
+  terminal-there block pin class output below there = grind (arith, get-first)
 
   pub known : (net : ℕ) → net < length sinks → is_known problem (net_name net) false ≡ true
-  known net below =
-      ap (λ (o : Option Net). option_map_or (λ (n : Net). agree n.global false) o false)
-      (named net below)
+  known net below = grind (arith, named)
 
   pub driver : (net : ℕ) → net < length sinks → net < side * side →
       driver_named problem (net_name net) ≡ Some (class_there (location_of side net) OUTPUT_CLASS)

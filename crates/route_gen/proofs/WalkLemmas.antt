@@ -1,5 +1,5 @@
 -- What holds at each place of a list, with what stands before it and behind it.
-use Rattle.std.proofs.Common.{◌≡◌, ◌⊎◌, ℕ, zero, suc, ◌+◌, ◌<◌, ◌≤◌, Bool, false, Option, Some, List, [], ◌∷◌, ◌++◌, length, refl, sym, ap, subst, ◌∙◌, inl, inr, arith}
+use Rattle.std.proofs.Common.{◌≡◌, ◌⊎◌, ℕ, zero, suc, ◌+◌, ◌<◌, ◌≤◌, Bool, false, Option, Some, List, [], ◌∷◌, ◌++◌, length, refl, ap, subst, ◌∙◌, inl, inr, arith}
 use Rattle.std.specs.Prelude.{⊤, map, slice_get, ◌||◌}
 use Rattle.std.specs.List.{AllByRecursion, last_or, list_any, range_with_len}
 use Rattle.fpga_types.proofs.FitLemmas.{Place, with_first, place-in}
@@ -44,11 +44,7 @@ module _ {T : Type 0} where
   pub last-made : (f : ℕ → T) (o : Option T) (a n : ℕ) →
       last_or o (map f (range_with_len a (n + 1))) ≡ Some (f (a + n))
   last-made f o a zero = let e : a ≡ a + 0 = omega arith in λ i. Some (f (e i))
-  last-made f o a (suc n) =
-      let e : a + 1 + n ≡ a + suc n = omega arith in
-      let more : suc n + 1 ≡ suc (n + 1) = omega arith in
-      ap (λ (m : ℕ). last_or o (map f (range_with_len a m))) more
-      ∙ last-made f (Some (f a)) (a + 1) n ∙ (λ i. Some (f (e i)))
+  last-made f o a (suc n) = grind (arith, (last-made f (Some (f a)) (a + 1) n))
 
   pub last-joined : (o : Option T) (xs ys : List T) →
       last_or o (xs ++ ys) ≡ last_or (last_or o xs) ys
@@ -110,10 +106,7 @@ module _ {T : Type 0} where
   -- the last place of a list is that of its last element
   pub last-place : (xs : List T) (z : T) (s : Place T) → In (splits (xs ++ z ∷ [])) s →
       (0 < length s.2) ⊎ ((s.1 ≡ z) × (s.2 ≡ []))
-  last-place [] z s i = elim i [
-    | inl first ↦ inr (sym (ap (λ (t : Place T). t.1) first), sym (ap (λ (t : Place T). t.2) first))
-    | inr none ↦ absurd none
-  ]
+  last-place [] z s i = grind (arith, Place)
   last-place (x ∷ xs) z s i = elim i [
     | inl first ↦ inl (subst (λ (t : Place T). 0 < length t.2) first (some xs))
     | inr later ↦

@@ -1,8 +1,8 @@
 -- The cells of a net of a generated problem, each beside the next, and none twice.
-use Rattle.std.proofs.Common.{◌≡◌, ◌≢◌, ◌⊎◌, ℕ, zero, suc, ◌+◌, ◌-◌, ◌<◌, ◌≤◌, Bool, true, false, Option, Some, None, [], ◌∷◌, ◌++◌, refl, sym, ap, subst, ◌∙◌, inl, inr, arith}
+use Rattle.std.proofs.Common.{rules, ◌≡◌, ◌≢◌, ◌⊎◌, ℕ, zero, suc, ◌+◌, ◌-◌, ◌<◌, ◌≤◌, Bool, true, false, Option, Some, None, [], ◌∷◌, ◌++◌, refl, sym, ap, subst, inl, inr, arith}
 use Rattle.std.specs.Int.{abs_diff}
-use Rattle.std.specs.Prelude.{is_none, nat_lt, not, ◌&&◌, ◌||◌, ◌==◌, option_and_then, slice_get, if◌then◌else◌}
-use Rattle.std.specs.List.{AllByRecursion, last_or, list_any}
+use Rattle.std.specs.Prelude.{is_none, nat_lt, not, ◌&&◌, option_and_then, slice_get, if◌then◌else◌}
+use Rattle.std.specs.List.{AllByRecursion, last_or}
 use Rattle.std.specs.Option.{option_map_or}
 use Rattle.std.proofs.lemmas.Bool.{cases_eq, eq-eqb, le-ltb, ltb-false, ltb-true, ne_eqb}
 use Rattle.fpga_types.specs.Fabric.{Meeting, MeetsAt}
@@ -11,7 +11,7 @@ use Rattle.fpga_types.specs.Fits.{Device, are_off}
 use Rattle.fpga_types.specs.Kinds.{is_channel, is_ipin, is_opin, is_sink, is_source, may_follow}
 use Rattle.fpga_types.specs.Slots.{elem_cell}
 use Rattle.fpga_types.specs.Terminals.{is_pin_at, named_terminal}
-use Rattle.fpga_types.specs.Touching.{all_sides, has_side, is_beside, touches}
+use Rattle.fpga_types.specs.Touching.{touches}
 use Rattle.fpga_types.specs.declared.grid.Axis.TheVariants.{X, Y}
 use Rattle.fpga_types.specs.declared.grid.Cell.{Cell}
 use Rattle.fpga_types.specs.declared.grid.PinAt.TheVariants.{Pin as PinOf}
@@ -20,7 +20,6 @@ use Rattle.fpga_types.specs.declared.route.Elem.{Elem}
 use Rattle.fpga_types.specs.declared.route.ElemKind.{ElemKind}
 use Rattle.fpga_types.specs.declared.route.ElemKind.TheVariants.{Source, Opin, ChanX, ChanY, Ipin, Sink as SinkKind}
 use Rattle.fpga_types.specs.declared.route.Label.TheVariants.{Class, Pin}
-use Rattle.fpga_types.specs.declared.arch.PinSpec.{PinSpec}
 use Rattle.fpga_types.proofs.CellLemmas.{x-place, y-place}
 use Rattle.fpga_types.proofs.MeetingLemmas.{meeting-found}
 use Rattle.route_gen.specs.Laws.{architecture_of_all, bottom_pin}
@@ -63,29 +62,15 @@ left-bottom e = cc
 
 -- the way from one number to another begins and ends there
 towards-first : (from to : ℕ) → towards from to 0 ≡ from
-towards-first from to = go (nat_lt to from)
-  where
-    go : (b : Bool) → (if b then from - 0 else from + 0) ≡ from
-    go true = omega arith
-    go false = omega arith
+towards-first from to = grind arith
 
 towards-last : (from to : ℕ) → towards from to (0 + abs_diff from to) ≡ to
-towards-last from to = go (nat_lt to from) refl
-  where
-    go : (b : Bool) → nat_lt to from ≡ b →
-        (if b then from - (0 + abs_diff from to) else from + (0 + abs_diff from to)) ≡ to
-    go true falls = let down = ltb-true to from falls in omega arith
-    go false rises = let up = ltb-false to from rises in omega arith
+towards-last from to = grind (arith, ltb-true, ltb-false)
 
 -- its steps are at different numbers
 towards-apart : (from to j k : ℕ) → j < k → k < abs_diff from to + 1 →
     towards from to k ≢ towards from to j
-towards-apart from to j k less within = go (nat_lt to from) refl
-  where
-    go : (b : Bool) → nat_lt to from ≡ b →
-        (if b then from - k else from + k) ≢ (if b then from - j else from + j)
-    go true falls same = let down = ltb-true to from falls in omega (arith, same)
-    go false rises same = omega (arith, same)
+towards-apart from to j k less within = grind (arith, ltb-true)
 
 -- from one step to the next it is one more or one less
 pub data IsStep (low high : ℕ) : Type 0 where
@@ -94,12 +79,7 @@ pub data IsStep (low high : ℕ) : Type 0 where
 
 towards-step : (from to k : ℕ) → k < abs_diff from to →
     IsStep (towards from to k) (towards from to (k + 1))
-towards-step from to k within = go (nat_lt to from) refl
-  where
-    go : (b : Bool) → nat_lt to from ≡ b →
-        IsStep (if b then from - k else from + k) (if b then from - (k + 1) else from + (k + 1))
-    go true falls = let down = ltb-true to from falls in Down (omega arith)
-    go false rises = Up (omega arith)
+towards-step from to k within = grind (arith, ltb-true)
 
 module _ (side : ℕ) where
   -- a meeting is found
@@ -119,38 +99,10 @@ module _ (side : ℕ) where
       are_apart (square_of side) (elem_cell (channel kind x y)) (elem_cell (channel after z w))
       ≡ false →
       IsNext side (Some (channel kind x y)) (channel after z w)
-  cell-next ChanX x y ChanX z w on off meets = record {
-    order = refl;
-    branch = refl;
-    meets = meets;
-    opin = refl;
-    ipin = refl;
-    stays = refl;
-  }
-  cell-next ChanX x y ChanY z w on off meets = record {
-    order = refl;
-    branch = refl;
-    meets = meets;
-    opin = refl;
-    ipin = refl;
-    stays = refl;
-  }
-  cell-next ChanY x y ChanX z w on off meets = record {
-    order = refl;
-    branch = refl;
-    meets = meets;
-    opin = refl;
-    ipin = refl;
-    stays = refl;
-  }
-  cell-next ChanY x y ChanY z w on off meets = record {
-    order = refl;
-    branch = refl;
-    meets = meets;
-    opin = refl;
-    ipin = refl;
-    stays = refl;
-  }
+  cell-next ChanX x y ChanX z w on off meets = grind arith
+  cell-next ChanX x y ChanY z w on off meets = grind arith
+  cell-next ChanY x y ChanX z w on off meets = grind arith
+  cell-next ChanY x y ChanY z w on off meets = grind arith
   cell-next _ x y _ z w on off meets = cc
 
   -- the next cell of a row, and of a column
@@ -261,42 +213,31 @@ module _ (side : ℕ) where
       IsBetween 1 side to → IsNext side o (channel ChanX from row) →
       Linked (IsNext side) o (along_row row from to)
   row-linked o row from to below start end first =
-      let made = λ (k : ℕ). channel ChanX (towards from to k) row in
-      linked-made (IsNext side) made o 0 (abs_diff from to + 1)
-      (subst (λ (x : ℕ). IsNext side o (channel ChanX x row)) (sym (towards-first from to)) first)
-      (λ k low high. cell-next ChanX (towards from to k) row ChanX (towards from to (k + 1)) row
-      refl refl (row-step (towards from to k) (towards from to (k + 1)) row
-      (towards-step from to k (omega arith))
-      (towards-between 1 side from to k (omega arith) start end)
-      (towards-between 1 side from to (k + 1) (omega arith) start end) below))
+      search (rules, linked-made, towards-first, cell-next, row-step, towards-step, towards-between)
 
   -- and of a column
   column-linked : (o : Option Elem) (column from to : ℕ) → column ≤ side → IsBetween 1 side from →
       IsBetween 1 side to → IsNext side o (channel ChanY column from) →
       Linked (IsNext side) o (along_column column from to)
   column-linked o column from to below start end first =
-      let made = λ (k : ℕ). channel ChanY column (towards from to k) in
-      linked-made (IsNext side) made o 0 (abs_diff from to + 1)
-      (subst (λ (y : ℕ). IsNext side o (channel ChanY column y)) (sym (towards-first from to))
-      first) (λ k low high.
-      cell-next ChanY column (towards from to k) ChanY column (towards from to (k + 1))
-      refl refl (column-step column (towards from to k) (towards from to (k + 1))
-      (towards-step from to k (omega arith)) below
-      (towards-between 1 side from to k (omega arith) start end)
-      (towards-between 1 side from to (k + 1) (omega arith) start end)))
+      search (
+        rules,
+        linked-made,
+        towards-first,
+        cell-next,
+        column-step,
+        towards-step,
+        towards-between,
+      )
 
   -- where they end
   row-last : (o : Option Elem) (row from to : ℕ) →
       last_or o (along_row row from to) ≡ Some (channel ChanX to row)
-  row-last o row from to =
-      last-made (λ k. channel ChanX (towards from to k) row) o 0 (abs_diff from to)
-      ∙ ap (λ (x : ℕ). Some (channel ChanX x row)) (towards-last from to)
+  row-last o row from to = grind (arith, last-made, towards-last)
 
   column-last : (o : Option Elem) (column from to : ℕ) →
       last_or o (along_column column from to) ≡ Some (channel ChanY column to)
-  column-last o column from to =
-      last-made (λ k. channel ChanY column (towards from to k)) o 0 (abs_diff from to)
-      ∙ ap (λ (y : ℕ). Some (channel ChanY column y)) (towards-last from to)
+  column-last o column from to = grind (arith, last-made, towards-last)
 
   -- the way in a column, behind the cell above the first row
   way-linked : (column from to : ℕ) → IsBetween 1 side column → from < side → to < side →
@@ -345,68 +286,27 @@ module _ (side : ℕ) where
   -- it ends above the last row
   way-last : (column from to : ℕ) → last_or (Some (channel ChanX column from))
       (to_row column from to) ≡ Some (channel ChanX column to)
-  way-last column from to = go (nat_lt from to) (nat_lt to from) refl refl
-    where
-      go : (up down : Bool) → nat_lt from to ≡ up → nat_lt to from ≡ down →
-          last_or (Some (channel ChanX column from))
-          (if up then along_column column (from + 1) to ++ channel ChanX column to ∷ []
-          else if down then along_column column from (to + 1) ++ channel ChanX column to ∷ []
-          else []) ≡ Some (channel ChanX column to)
-      go true down rises other = last-push (Some (channel ChanX column from))
-          (along_column column (from + 1) to) (channel ChanX column to)
-      go false true other falls = last-push (Some (channel ChanX column from))
-          (along_column column from (to + 1)) (channel ChanX column to)
-      go false false other none =
-          let same : from ≡ to
-          = (let a = ltb-false from to other in let b = ltb-false to from none in omega arith) in
-          ap (λ (y : ℕ). Some (channel ChanX column y)) same
+  way-last column from to = grind (arith, last-push, ltb-false)
 
   -- all cells
   pub cells-linked : (o : Option Elem) (driver sink : Location) → IsPlace side driver →
       IsPlace side sink → IsNext side o (channel ChanX driver.column (driver.row - 1)) →
       Linked (IsNext side) o (cells driver sink)
   cells-linked o driver sink from to first =
-      let a = from.row_above in let b = from.row_below in
-      let c = to.row_above in let d = to.row_below in
-      linked-joined (IsNext side) o (along_row (driver.row - 1) driver.column sink.column)
-      (to_row sink.column (driver.row - 1) (sink.row - 1))
-      (row-linked o (driver.row - 1) driver.column sink.column (omega arith)
-      (record { above = from.column_above; below = from.column_below })
-      (record { above = to.column_above; below = to.column_below }) first)
-      (subst (λ (q : Option Elem). Linked (IsNext side) q
-      (to_row sink.column (driver.row - 1) (sink.row - 1)))
-      (sym (row-last o (driver.row - 1) driver.column sink.column))
-      (way-linked sink.column (driver.row - 1) (sink.row - 1)
-      (record { above = to.column_above; below = to.column_below }) (omega arith) (omega arith)))
+      grind (arith, linked-joined, row-linked, Linked, row-last, way-linked)
 
   pub cells-last : (o : Option Elem) (driver sink : Location) →
       last_or o (cells driver sink) ≡ Some (channel ChanX sink.column (sink.row - 1))
-  cells-last o driver sink =
-      last-joined o (along_row (driver.row - 1) driver.column sink.column)
-      (to_row sink.column (driver.row - 1) (sink.row - 1))
-      ∙ ap (λ (q : Option Elem). last_or q (to_row sink.column (driver.row - 1) (sink.row - 1)))
-      (row-last o (driver.row - 1) driver.column sink.column)
-      ∙ way-last sink.column (driver.row - 1) (sink.row - 1)
+  cells-last o driver sink = grind (arith, last-joined, row-last, way-last)
 
 -- cells at two places are not equal
 row-other : (x z r w : ℕ) → (x ≢ z) ⊎ (r ≢ w) →
     same_elem (channel ChanX x r) (channel ChanX z w) ≡ false
-row-other x z r w (inl other) =
-    λ i. true && (ne_eqb x z other i && r == w && true) && (true || 0 == 0)
-row-other x z r w (inr other) =
-    (λ i. true && (x == z && ne_eqb r w other i && true) && (true || 0 == 0)) ∙ off (x == z)
-  where
-    off : (a : Bool) → (true && (a && false && true) && (true || 0 == 0)) ≡ false
-    off true = refl
-    off false = refl
+row-other x z r w (inl other) = grind (arith, ne_eqb)
+row-other x z r w (inr other) = grind (arith, ne_eqb)
 
 column-other : (x y w : ℕ) → y ≢ w → same_elem (channel ChanY x y) (channel ChanY x w) ≡ false
-column-other x y w other =
-    (λ i. true && (x == x && ne_eqb y w other i && true) && (true || 0 == 0)) ∙ off (x == x)
-  where
-    off : (a : Bool) → (true && (a && false && true) && (true || 0 == 0)) ≡ false
-    off true = refl
-    off false = refl
+column-other x y w other = grind (arith, ne_eqb)
 
 -- what holds of channel cells holds of all on the way
 pub way-all : (P : Elem → Type 0) (column from to : ℕ) → P (channel ChanX column to) →
@@ -433,14 +333,7 @@ way-all P column from to last each = go (nat_lt from to) (nat_lt to from)
 
 pub cells-all : (P : Elem → Type 0) (driver sink : Location) → ((x y : ℕ) → P (channel ChanX x y)) →
     ((x y : ℕ) → P (channel ChanY x y)) → AllByRecursion P (cells driver sink)
-cells-all P driver sink rows columns =
-    all_joined P (along_row (driver.row - 1) driver.column sink.column)
-    (to_row sink.column (driver.row - 1) (sink.row - 1))
-    (all_made P (λ k. channel ChanX (towards driver.column sink.column k) (driver.row - 1)) 0
-    (abs_diff driver.column sink.column + 1)
-    (λ k below. rows (towards driver.column sink.column k) (driver.row - 1)))
-    (way-all P sink.column (driver.row - 1) (sink.row - 1)
-    (rows sink.column (sink.row - 1)) columns)
+cells-all P driver sink rows columns = search (rules, all_joined, all_made, way-all)
 
 -- no cell of a row or of a column stands twice
 row-apart : (row from to : ℕ) → Apart same_elem (along_row row from to)
@@ -524,18 +417,7 @@ touches-below : (side : ℕ) (at : Location) (pin class : ℕ) (output : Bool) �
     slice_get architecture_of_all.pins pin ≡ Some (bottom_pin class output) →
     touches architecture_of_all (square_of side) (PinOf at.column at.row pin)
     (record { axis = X; x = at.column; y = at.row - 1 }) ≡ true
-touches-below side at pin class output place there =
-    let row = place.row_below in let above = place.row_above in
-    let cell : Cell = record { axis = X; x = at.column; y = at.row - 1 } in
-    let in_array = x-place (square_of side) at.column (at.row - 1) place.column_above
-    place.column_below (omega arith) in
-    let one : at.row - 1 + 1 ≡ at.row = omega arith in
-    let x = eq-eqb at.column at.column refl in
-    let y = eq-eqb (at.row - 1 + 1) at.row one in
-    (λ i. in_array i && list_any (λ s. option_map_or
-    (λ (spec : PinSpec). has_side spec.sides s) (there i) false
-    && is_beside (PinOf at.column at.row pin) cell s) all_sides)
-    ∙ (λ i. (true && x i && y i) || false)
+touches-below side at pin class output place there = grind (arith, x-place, square_of, eq-eqb)
 
 -- the elements of a net
 module _ (side : ℕ) (driver sink : Location) (pin : ℕ) (from : IsPlace side driver)
@@ -553,52 +435,26 @@ module _ (side : ℕ) (driver sink : Location) (pin : ℕ) (from : IsPlace side 
   sink_elem = elem_at SinkKind sink Class INPUT_CLASS
 
   opin-next : IsNext side (Some opin_elem) (channel ChanX driver.column (driver.row - 1))
-  opin-next = record {
-    order = refl;
-    branch = refl;
-    meets = refl;
-    opin = ap not (touches-below side driver OUTPUT_PIN OUTPUT_CLASS true from refl);
-    ipin = refl;
-    stays = refl;
-  }
+  opin-next = grind (arith, touches-below)
 
   ipin-next : IsNext side (Some (channel ChanX sink.column (sink.row - 1))) ipin_elem
-  ipin-next = record {
-    order = refl;
-    branch = refl;
-    meets = refl;
-    opin = refl;
-    ipin = ap not (touches-below side sink pin INPUT_CLASS false to (pin-there pin input));
-    stays = refl;
-  }
+  ipin-next = grind (arith, touches-below, pin-there)
 
   sink-next : IsNext side (Some ipin_elem) sink_elem
-  sink-next =
-      let x = eq-eqb sink.column sink.column refl in
-      let y = eq-eqb sink.row sink.row refl in
-      let there = pin-there pin input in
-      record {
-        order = refl;
-        branch = refl;
-        meets = refl;
-        opin = refl;
-        ipin = refl;
-        stays = λ i. true && (true && not (x i && y i && option_map_or
-            (λ (spec : PinSpec). spec.class == INPUT_CLASS) (there i) false));
-      }
+  sink-next = grind (arith, eq-eqb, pin-there)
 
   pub trace-linked : Linked (IsNext side) None (trace driver sink pin)
-  trace-linked = (
-    record { order = refl; branch = refl; meets = refl; opin = refl; ipin = refl; stays = refl },
-    (
-      record { order = refl; branch = refl; meets = refl; opin = refl; ipin = refl; stays = refl },
-      linked-joined (IsNext side) (Some opin_elem) (cells driver sink)
-          (ipin_elem ∷ sink_elem ∷ [])
-          (cells-linked side (Some opin_elem) driver sink from to opin-next)
-          (subst (λ (o : Option Elem). Linked (IsNext side) o (ipin_elem ∷ sink_elem ∷ []))
-          (sym (cells-last side (Some opin_elem) driver sink)) (ipin-next, (sink-next, tt))),
-    ),
-  )
+  trace-linked =
+      grind (
+        arith,
+        linked-joined,
+        cells-linked,
+        opin-next,
+        Linked,
+        cells-last,
+        ipin-next,
+        sink-next,
+      )
 
   pub trace-apart : Apart same_elem (trace driver sink pin)
   trace-apart = (

@@ -1,10 +1,9 @@
 -- The logs that are cut down to what a refutation needs, and the nets that they blame.
-use Rattle.std.specs.Prelude.{◌≡◌, ◌++◌, ℕ, List, [], length, codes, flat_map, slice_get}
-use Rattle.std.specs.Option.{option_map_or}
+use Rattle.std.specs.Prelude.{◌≡◌, ◌++◌, ℕ, List, [], length, codes, flat_map}
 use Rattle.desk_io.specs.Files.{Bytes}
 use Rattle.fpga_types.specs.Problem.{RoutingProblem}
-use Rattle.fpga_types.specs.declared.route.RouteNet.{RouteNet}
 use Rattle.fpga_types.specs.declared.route.RouteText.{RouteText}
+use Rattle.route_sweep.specs.NetNames.{name_at}
 use Rattle.route_core.specs.Blamed.{blamed}
 use Rattle.route_core.specs.Core.{AreUnroutable}
 use Rattle.route_core.specs.Trimmed.{AddedRise, IsTrimmed}
@@ -22,14 +21,9 @@ pub record IsLearned (formula : Cnf) (log : List Step) : Type 0 where
   pub rising : AddedRise (length formula.clauses) log
   pub printable : IsPrintableLog (length formula.clauses) log
 
--- the name of a net by its position among those of a route
-abbrev pub net_name : RouteText → (position : ℕ) → Bytes
-net_name route position =
-    option_map_or (λ (net : RouteNet). net.name) (slice_get route.nets position) []
-
 -- a line that names the net
 abbrev pub net_line : RouteText → (position : ℕ) → Bytes
-net_line route position = codes "net " ++ net_name route position ++ codes "\n"
+net_line route position = codes "net " ++ name_at route position ++ codes "\n"
 
 -- a line for each of these nets, in their order
 abbrev pub net_lines : RouteText → (positions : List ℕ) → Bytes

@@ -7,7 +7,8 @@ ghost use Rattle.route_core.specs.Blamed.{blamed};
 ghost use Rattle.route_core.specs.Core.{AreUnroutable};
 ghost use Rattle.route_core.specs.Fair.{IsFair};
 ghost use Rattle.route_core.specs.Trimmed.{IsTrimmed};
-ghost use Rattle.route_ways.specs.Trimming.{IsLearned, net_line, net_lines, net_name};
+ghost use Rattle.route_sweep.specs.NetNames.{name_at};
+ghost use Rattle.route_ways.specs.Trimming.{IsLearned, net_line, net_lines};
 ghost use Rattle.sat_clause.specs.Formula.{Cnf};
 ghost use Rattle.sat_clause.specs.Step.{Step};
 ghost use Rattle.sat_text.specs.LratText.{ReadsLrat};
@@ -30,7 +31,7 @@ pub trait Learner: Searcher {
 
 // The name of a net by its position among those of a route; empty where there is none.
 fn net_name(route: &RouteText, position: u32) -> &[u8]
-    ensures { result.now ≡ net_name route.now position }
+    ensures { result.now ≡ name_at route.now position }
 {
     let Some(net) = route.nets.as_slice().get(position as usize) else {
         return b"";

@@ -11,8 +11,9 @@ use crate::progress::ProgressShelf;
 use crate::stopwatch::Stopwatch;
 use desk_io::{FileDesk, FileShelf};
 use router_says::{SystemErrors, append_words};
-use router_top::{Ran, run, status};
+use router_top::run;
 use router_words::asks_stats;
+use run_outcome::{Ran, status};
 use run_stats::stats_line;
 use std::io::IsTerminal;
 use std::process::ExitCode;
@@ -70,23 +71,28 @@ fn say_stats<R: AllocGlobal + Clock + Files + Eprint>(
     }
 }
 
-fn main(rt: HostRuntime) -> ExitCode {
-    let mut clock = Stopwatch::new(&rt);
-    let Ok(words) = given_words(&rt) else {
-        return ExitCode::from(NO_WORDS);
-    };
-    if let Ok(true) = asks_stats(rt.alloc(), &words) {
+// Runs the words, says what there is to say of that, and gives the status.
+fn answer(rt: &HostRuntime, words: &[String]) -> ExitCode {
+    let mut clock = Stopwatch::new(rt);
+    if let Ok(true) = asks_stats(rt.alloc(), words) {
         clock.measure();
     }
-    let mut desk = FileDesk::new(&rt);
-    let mut shelf = ProgressShelf::new(&rt, FileShelf::new(&rt), tells_progress(&rt));
-    let ran = run(rt.alloc(), &words, &mut desk, &mut shelf, &mut clock);
+    let mut desk = FileDesk::new(rt);
+    let mut shelf = ProgressShelf::new(rt, FileShelf::new(rt), tells_progress(rt));
+    let ran = run(rt.alloc(), words, &mut desk, &mut shelf, &mut clock);
     let errors = SystemErrors {
         reading: desk.last_error(),
         writing: shelf.shelf().file_error(),
         saying: shelf.shelf().say_error(),
     };
-    say(&rt, &mut desk, &words, &ran, errors);
-    say_stats(&rt, &mut clock, &ran);
+    say(rt, &mut desk, words, &ran, errors);
+    say_stats(rt, &mut clock, &ran);
     ExitCode::from(status(&ran.outcome))
+}
+
+fn main(rt: HostRuntime) -> ExitCode {
+    match given_words(&rt) {
+        Ok(words) => answer(&rt, &words),
+        Err(_) => ExitCode::from(NO_WORDS),
+    }
 }

@@ -1,7 +1,7 @@
 //! What long work says of itself while it goes on, on standard error.
 
 use desk_io::{Failed, Shelf};
-use router_top::Progress;
+use run_placed::Progress;
 use std::rt::Clock;
 use std::time::Instant;
 

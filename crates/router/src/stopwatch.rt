@@ -6,7 +6,7 @@ use fpga_bounds::PlacedProblem;
 use fpga_types::RouteText;
 use patience::Patience;
 use route_sweep::Watch;
-use router_top::Clock;
+use run_outcome::Clock;
 use run_stats::Stats;
 use sat_clause::{Formula, Log};
 use std::alloc::Global;

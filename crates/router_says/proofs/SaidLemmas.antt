@@ -8,8 +8,8 @@ use Rattle.router_says.specs.Names.{asked_in}
 use Rattle.router_says.specs.Raised.{raised_said}
 use Rattle.router_says.specs.Said.{IsSaid, Says, SaysAnd}
 use Rattle.router_says.specs.declared.faults.SystemErrors.{SystemErrors}
-use Rattle.router_top.specs.declared.outcome.Outcome.{Outcome}
-use Rattle.router_top.specs.declared.ran.Reason.{Reason}
+use Rattle.run_outcome.specs.declared.outcome.Outcome.{Outcome}
+use Rattle.run_outcome.specs.declared.ran.Reason.{Reason}
 use Rattle.router_words.specs.Job.{JobAsked}
 use Rattle.router_words.specs.Word.{Word}
 

@@ -2,10 +2,10 @@
 use Rattle.std.proofs.Common.{◌≡◌, true, refl}
 use Rattle.code_words.specs.Codes.{is_code}
 use Rattle.fpga_problem.specs.declared.text_file.TextFile.TheVariants.{Architecture, Netlist, Placement, Route}
-use Rattle.router_top.specs.SizeCauses.{size_code}
-use Rattle.router_top.specs.declared.size_cause.SizeCause.{SizeCause}
-use Rattle.router_top.specs.declared.size_cause.SizeCause.TheVariants.{FormulaClauses, GeneratedNets, ClausesOfTurns, FileBytes}
-use Rattle.router_top.specs.declared.text_file.TextFile.TheVariants.{Cnf, Lrat, Model, Problem, Routed}
+use Rattle.run_outcome.specs.SizeCauses.{size_code}
+use Rattle.run_outcome.specs.declared.size_cause.SizeCause.{SizeCause}
+use Rattle.run_outcome.specs.declared.size_cause.SizeCause.TheVariants.{FormulaClauses, GeneratedNets, ClausesOfTurns, FileBytes}
+use Rattle.run_outcome.specs.declared.text_file.TextFile.TheVariants.{Cnf, Lrat, Model, Problem, Routed}
 
 pub size-codes_are_said : (c : SizeCause) → is_code (size_code c) ≡ true
 size-codes_are_said FormulaClauses = refl

@@ -33,8 +33,8 @@ use Rattle.router_says.specs.declared.pin_use.PinUse.{PinUse}
 use Rattle.router_says.specs.declared.phrases.TheConstants.{AND, FAULT_NET, FAULT_NO_KEYWORD, FAULT_PIN, FAULT_PINS}
 use Rattle.fpga_problem.specs.Sources.{IsLonger}
 use Rattle.fpga_problem.specs.declared.source.TheConstants.{TEXT_BYTES}
-use Rattle.router_top.specs.declared.text_file.TextFile.{TextFile}
-use Rattle.router_top.specs.declared.text_file.TextFile.TheVariants.{Problem, Routed}
+use Rattle.run_outcome.specs.declared.text_file.TextFile.{TextFile}
+use Rattle.run_outcome.specs.declared.text_file.TextFile.TheVariants.{Problem, Routed}
 
 -- behind a text comes one that is so
 abbrev pub Appends : (List ℕ → Type 0) → (old new : List ℕ) → Type 0

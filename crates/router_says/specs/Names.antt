@@ -2,13 +2,13 @@
 use Rattle.std.specs.Prelude.{ℕ, ◌++◌, Bool, false, not, is_some, List, codes, Option, Some, None, Result, Ok, Err, option_and_then, option_map}
 use Rattle.fpga_problem.specs.Files.{FileNames, PlacedNames}
 use Rattle.fpga_problem.specs.declared.text_file.TextFile.TheVariants.{Architecture, Netlist, Placement, Route}
-use Rattle.router_top.specs.Report.{file_word}
+use Rattle.run_outcome.specs.Report.{file_word}
 use Rattle.router_says.specs.declared.names.Written.{Written}
 use Rattle.router_says.specs.declared.names.Written.TheVariants.{Each, One}
 use Rattle.router_says.specs.declared.phrases.TheConstants.{FILE}
-use Rattle.router_top.specs.SlotNames.{OfEach, OfOne, Prefix, prefix_given}
-use Rattle.router_top.specs.declared.text_file.TextFile.{TextFile}
-use Rattle.router_top.specs.declared.text_file.TextFile.TheVariants.{Cnf, Lrat, Model, Problem, Routed}
+use Rattle.run_outcome.specs.SlotNames.{OfEach, OfOne, Prefix, prefix_given}
+use Rattle.run_outcome.specs.declared.text_file.TextFile.{TextFile}
+use Rattle.run_outcome.specs.declared.text_file.TextFile.TheVariants.{Cnf, Lrat, Model, Problem, Routed}
 use Rattle.router_words.specs.Command.{job_of}
 use Rattle.router_words.specs.Job.{CheckAsked, DecodeAsked, JobAsked, JudgeAsked, VerifyAsked, Routes, Sweeps, Decodes, Encodes, Blames, Bounds, Checks, Judges, Narrows, Negotiates, Verifies, Generates, Tries, job_said}
 use Rattle.router_words.specs.Word.{Word}

@@ -5,10 +5,10 @@ use Rattle.fpga_types.specs.declared.netlist.Netlist.{Netlist}
 use Rattle.route_bound.specs.declared.range.CornerRange.{CornerRange}
 use Rattle.router_says.specs.Seen.{listed}
 use Rattle.router_says.specs.declared.phrases.TheConstants.{TO, WINDOW_ALONE, WINDOW_COLUMNS, WINDOW_NETS, WINDOW_ROWS}
-use Rattle.router_top.specs.Bound.{net_name}
-use Rattle.router_top.specs.declared.outcome.Outcome.{Outcome}
-use Rattle.router_top.specs.declared.outcome.Outcome.TheVariants.{Narrowed}
-use Rattle.router_top.specs.declared.ran.Reason.{Reason}
+use Rattle.route_sweep.specs.NetNames.{net_name}
+use Rattle.run_outcome.specs.declared.outcome.Outcome.{Outcome}
+use Rattle.run_outcome.specs.declared.outcome.Outcome.TheVariants.{Narrowed}
+use Rattle.run_outcome.specs.declared.ran.Reason.{Reason}
 
 -- which columns and rows of blocks have all their corners in the range
 abbrev pub window_said : CornerRange → List ℕ

@@ -19,17 +19,17 @@ use Rattle.router_says.specs.Unfound.{no_way_said, unfound_said}
 use Rattle.usage_words.specs.Usage.{usage_said}
 use Rattle.router_says.specs.declared.faults.SystemErrors.{SystemErrors}
 use Rattle.router_says.specs.declared.phrases.TheConstants.{ASKS, ASKS_CLAUSES, ASKS_CUT, ASKS_REFUTED, ASYMMETRY_AT, ASYMMETRY_FORBIDS, ASYMMETRY_INPUTS, ASYMMETRY_NOT_SUBSET, ASYMMETRY_OTHER_PATTERN, ASYMMETRY_OUTPUTS, ASYMMETRY_PADS, ASYMMETRY_SO, BOUND_ANY_ROUTE, BOUND_CELLS, BOUND_CROSSING, BOUND_ROUTING, FAULT_CLAUSE, FAULT_NO_MODEL, FILE_CLAUSES, FILE_LOG, FILE_STANDARD_OUTPUT, FILE_UNREAD, FILE_UNWRITTEN, LEAST_FOR, LEAST_FOUND, LOG_CHECK, LOG_CHECK_LAST, LOG_EACH_CLAUSES, LOG_EACH_REFUTES, LOG_REFUTES, MEMORY_NOTHING, MEMORY_REFUTED, MEMORY_WIDTHS, NEAR_FOR, NEAR_NEEDS, OPEN_BUDGET_SPENT, OPEN_LEARNED, OPEN_ROUTING, OPEN_TIME_OVER, OPTION_PIN, OPTION_SYMMETRY, REACH_JOINS, REACH_WITHIN, REFUTED_ROUTING, REFUTED_UP_TO, ROUTE_GIVEN, ROUTE_OTHERS, TO, TRACKS, TRACKS_LEGAL, TRY_ANOTHER_SOLVER, TRY_CONFLICTS, TRY_GREATER_WIDTH, TRY_HAND, TRY_NO_BUDGET, TRY_OR, TRY_OTHER_WIDTH, TRY_SECONDS}
-use Rattle.router_top.specs.SlotNames.{OfEach, OfOne, Prefix, slot_name}
-use Rattle.router_top.specs.Stopped.{budget_asked}
-use Rattle.router_top.specs.declared.outcome.Obstacle.{Obstacle}
-use Rattle.router_top.specs.declared.outcome.Obstacle.TheVariants.{Order, Pins}
-use Rattle.router_top.specs.declared.outcome.Outcome.{Outcome}
-use Rattle.router_top.specs.declared.outcome.Outcome.TheVariants.{Bound, NotAccepted, NotLegal, NotModel, NotSymmetric, InputFault, Limit, ReadFault, Undecided, Unroutable, WriteFault, Usage, OutOfMemory, Unfound, NoWay, Narrowed, Beyond}
-use Rattle.router_top.specs.declared.ran.Reason.{Reason}
-use Rattle.router_top.specs.declared.slot.Slot.{Slot as SlotOf}
-use Rattle.router_top.specs.declared.slot.Slot.TheVariants.{Said as SaidSlot}
-use Rattle.router_top.specs.declared.text_file.TextFile.{TextFile}
-use Rattle.router_top.specs.declared.text_file.TextFile.TheVariants.{Lrat, Model, Routed}
+use Rattle.run_outcome.specs.SlotNames.{OfEach, OfOne, Prefix, slot_name}
+use Rattle.run_outcome.specs.Stopped.{budget_asked}
+use Rattle.run_outcome.specs.declared.outcome.Obstacle.{Obstacle}
+use Rattle.run_outcome.specs.declared.outcome.Obstacle.TheVariants.{Order, Pins}
+use Rattle.run_outcome.specs.declared.outcome.Outcome.{Outcome}
+use Rattle.run_outcome.specs.declared.outcome.Outcome.TheVariants.{Bound, NotAccepted, NotLegal, NotModel, NotSymmetric, InputFault, Limit, ReadFault, Undecided, Unroutable, WriteFault, Usage, OutOfMemory, Unfound, NoWay, Narrowed, Beyond}
+use Rattle.run_outcome.specs.declared.ran.Reason.{Reason}
+use Rattle.run_outcome.specs.declared.slot.Slot.{Slot as SlotOf}
+use Rattle.run_outcome.specs.declared.slot.Slot.TheVariants.{Said as SaidSlot}
+use Rattle.run_outcome.specs.declared.text_file.TextFile.{TextFile}
+use Rattle.run_outcome.specs.declared.text_file.TextFile.TheVariants.{Lrat, Model, Routed}
 use Rattle.router_words.specs.Job.{JobAsked, Routes, Sweeps}
 use Rattle.router_words.specs.Word.{Word}
 use Rattle.router_words.specs.declared.limits.TheConstants.{BUDGET_LIMIT}

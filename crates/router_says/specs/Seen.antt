@@ -24,7 +24,7 @@ use Rattle.router_says.specs.Names.{reach_of}
 use Rattle.router_says.specs.declared.places.TheConstants.{NAME_LIMIT}
 use Rattle.router_says.specs.declared.phrases.TheConstants.{AND, SEEN_ALONE, SEEN_APART, SEEN_CELL, SEEN_CHANNEL, SEEN_COUNT, SEEN_CROWD, SEEN_MORE, SEEN_ORDER, SEEN_TRACKLESS}
 use Rattle.router_says.specs.declared.seen.Hints.{Hints}
-use Rattle.route_ways.specs.Trimming.{net_name}
+use Rattle.route_sweep.specs.NetNames.{name_at}
 use Rattle.router_words.specs.Job.{Blames, JobAsked, Routes, Sweeps}
 use Rattle.router_words.specs.declared.method.Method.{Method}
 use Rattle.router_words.specs.declared.method.Method.TheVariants.{Strictly}
@@ -34,7 +34,7 @@ use Rattle.router_words.specs.declared.method.Method.TheVariants.{Strictly}
 -- a blank, and the name of the net of the slot with this number
 abbrev pub net_said : RoutingProblem → (slot : ℕ) → List ℕ
 net_said p slot = option_map_or
-    (λ (s : Slot). codes " " ++ name_said (net_name p.route s.net))
+    (λ (s : Slot). codes " " ++ name_said (name_at p.route s.net))
     (slice_get (slots p.route) slot) []
 
 -- the first of these, and how many more there are

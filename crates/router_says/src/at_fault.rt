@@ -5,15 +5,15 @@ ghost use Rattle.std.specs.Option.{option_copied};
 ghost use Rattle.router_says.specs.AtFault.{Appends, IsRead, SaidByOne, SaidByTwo, Shows, both_shown, file_shown, said_by_both, sought_of};
 ghost use Rattle.router_says.specs.Names.{asked, name_of};
 ghost use Rattle.router_says.specs.declared.sought.Sought.TheVariants.{Routed as RoutedLine};
-ghost use Rattle.router_top.specs.declared.text_file.TextFile.TheVariants.{Routed};
+ghost use Rattle.run_outcome.specs.declared.text_file.TextFile.TheVariants.{Routed};
 
 use crate::names::given_name;
 use crate::shown::{append_both, append_shown};
 use crate::sought::{Sought, sought_of, two_files};
 use desk_io::{Desk, ReadStop, read_file};
 use fpga_problem::TEXT_BYTES;
-use router_top::TextFile;
 use router_words::Job;
+use run_outcome::TextFile;
 use std::alloc::{AllocError, Global};
 
 /// Appends what is at fault at this line of a file, by its name where the code tells of something

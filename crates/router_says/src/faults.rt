@@ -10,15 +10,15 @@ ghost use Rattle.router_says.specs.Said.{
   unread_said,
   unwritten_said,
 };
-ghost use Rattle.router_top.specs.SlotNames.{plain_name, slot_name, width_name};
+ghost use Rattle.run_outcome.specs.SlotNames.{plain_name, slot_name, width_name};
 
 use crate::names::{Written, files_written};
 use crate::phrases::{FILE_STANDARD_OUTPUT, FILE_UNREAD, FILE_UNWRITTEN};
 use crate::refused::append_file;
 use code_words::system_error;
 use route_sweep::FileSlot;
-use router_top::{Slot, TextFile};
 use router_words::Job;
+use run_outcome::{Slot, TextFile};
 use std::alloc::AllocError;
 use std::io::ErrorKind;
 

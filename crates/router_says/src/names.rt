@@ -19,13 +19,13 @@ ghost use Rattle.router_says.specs.Names.{
   reach_by,
   reach_of as reach_of_job,
 };
-ghost use Rattle.router_top.specs.declared.text_file.TextFile.TheVariants.{Problem};
+ghost use Rattle.run_outcome.specs.declared.text_file.TextFile.TheVariants.{Problem};
 ghost use Rattle.router_words.specs.Job.{check_said, decode_said, judge_said, verify_said};
 ghost use Rattle.router_words.specs.Word.{words_of};
 
 use fpga_problem::{FourNames, TextFile as ProblemFile, ThreeNames};
-use router_top::TextFile;
 use router_words::{CheckJob, DecodeJob, Job, JudgeJob, Method, VerifyJob, WordsFault, read_words};
+use run_outcome::TextFile;
 use std::alloc::{AllocError, Global};
 
 /// The job that the words ask for, if they ask for one.

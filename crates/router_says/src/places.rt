@@ -13,7 +13,7 @@ ghost use Rattle.router_says.specs.Seen.{
 };
 ghost use Rattle.router_says.specs.declared.phrases.TheConstants.{AND, SEEN_CHANNEL, SEEN_MORE};
 ghost use Rattle.router_says.specs.declared.places.TheConstants.{NAME_LIMIT};
-ghost use Rattle.route_ways.specs.Trimming.{net_name};
+ghost use Rattle.route_sweep.specs.NetNames.{name_at};
 
 use crate::phrases::{AND, SEEN_CHANNEL, SEEN_MORE};
 use fault_names::append_name;
@@ -79,7 +79,7 @@ pub(crate) fn append_net(
 
 // The name of a net by its position among those of a route; empty where there is none.
 fn net_name(route: &RouteText, position: u32) -> &[u8]
-    ensures { result.now ≡ net_name route.now position }
+    ensures { result.now ≡ name_at route.now position }
 {
     let Some(net) = route.nets.as_slice().get(position as usize) else {
         return b"";

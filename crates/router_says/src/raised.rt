@@ -3,14 +3,14 @@ ghost use Rattle.std.specs.Prelude.{◌≡◌, ◌++◌, ◌-◌, OnOk, codes, d
 ghost use Rattle.fault_names.specs.NameBytes.{name_said};
 ghost use Rattle.router_says.specs.Raised.{alone_said, blamed_said, net_said, nets_said, raised_said, window_said};
 ghost use Rattle.router_says.specs.declared.places.TheConstants.{NAME_LIMIT};
-ghost use Rattle.router_top.specs.Bound.{net_name};
+ghost use Rattle.route_sweep.specs.NetNames.{net_name};
 
 use crate::phrases::{TO, WINDOW_ALONE, WINDOW_COLUMNS, WINDOW_NETS, WINDOW_ROWS};
 use crate::places::{NAME_LIMIT, append_more};
 use fault_names::append_name;
 use fpga_types::Netlist;
 use route_bound::CornerRange;
-use router_top::{Outcome, Reason};
+use run_outcome::{Outcome, Reason};
 use std::alloc::AllocError;
 
 /// Appends which nets need as many tracks by themselves, and where, if the outcome tells of tracks

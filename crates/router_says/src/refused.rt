@@ -5,8 +5,8 @@ ghost use Rattle.router_says.specs.Said.{limit_place, unmet_said};
 
 use crate::names::given_name;
 use crate::phrases::{FAULT_CLAUSE, FAULT_NO_MODEL, FILE};
-use router_top::TextFile;
 use router_words::Job;
+use run_outcome::TextFile;
 use std::alloc::AllocError;
 
 /// Appends the file that holds what passes its limit, if one does.

@@ -16,7 +16,7 @@ use fpga_problem::TextFile as ProblemFile;
 use fpga_route::read_route;
 use fpga_text::{Style, TextFault};
 use fpga_types::PinSpec;
-use router_top::TextFile;
+use run_outcome::TextFile;
 use std::alloc::{AllocError, Global};
 
 // ---- of one file

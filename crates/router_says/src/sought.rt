@@ -3,7 +3,7 @@ ghost use Rattle.std.specs.Prelude.{◌≡◌};
 ghost use Rattle.router_says.specs.AtFault as spec;
 
 use fpga_problem::TextFile as ProblemFile;
-use router_top::TextFile;
+use run_outcome::TextFile;
 
 /// What is to be named.
 #[derive(Clone, Copy)]

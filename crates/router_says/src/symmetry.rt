@@ -5,7 +5,7 @@ ghost use Rattle.router_says.specs.declared.phrases.TheConstants.{ASYMMETRY_AT, 
 
 use crate::phrases::*;
 use problem_facts::Asymmetry;
-use router_top::Obstacle;
+use run_outcome::Obstacle;
 use std::alloc::AllocError;
 
 /// Appends at which width tracks are not alike enough, what keeps them from it, and which option

@@ -42,7 +42,7 @@ ghost use Rattle.router_says.specs.Said.{
   up_to_said,
   was_stopped,
 };
-ghost use Rattle.router_top.specs.Stopped.{budget_asked};
+ghost use Rattle.run_outcome.specs.Stopped.{budget_asked};
 ghost use Rattle.router_words.specs.Job.{job_said};
 ghost use Rattle.router_words.specs.declared.limits.TheConstants.{BUDGET_LIMIT};
 

@@ -17,7 +17,7 @@ ghost use Rattle.router_says.specs.Said.{
 };
 ghost use Rattle.router_says.specs.Seen.{Sees};
 ghost use Rattle.router_says.specs.declared.sought.Sought.TheVariants.{Routed as RoutedLine};
-ghost use Rattle.router_top.specs.declared.text_file.TextFile.TheVariants.{Lrat, Model, Routed};
+ghost use Rattle.run_outcome.specs.declared.text_file.TextFile.TheVariants.{Lrat, Model, Routed};
 ghost use Rattle.router_words.specs.Word.{words_of};
 
 use crate::at_fault::{append_at_fault, append_judged_line};
@@ -33,8 +33,8 @@ use crate::unsettled::{append_no_memory, append_undecided, append_unroutable};
 use code_words::{append_judged, append_limit, append_line, append_step};
 use desk_io::Desk;
 use fpga_bounds::PlacedProblem;
-use router_top::{Outcome, Ran, TextFile, status};
 use router_words::Job;
+use run_outcome::{Outcome, Ran, TextFile, status};
 use std::alloc::{AllocError, Global};
 use usage_words::append_usage;
 

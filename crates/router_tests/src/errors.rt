@@ -5,8 +5,8 @@ use fpga_text::TextFault;
 use fpga_types::SizeFault;
 use route_gen::GenStop;
 use route_sweep::{FileSlot, Stop};
-use router_top::{Outcome, report, status};
 use router_words::{Refusal as WordsRefusal, WordsFault};
+use run_outcome::{Outcome, report, status};
 use std::alloc::Global;
 use std::fmt::Display;
 

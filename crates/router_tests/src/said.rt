@@ -2,7 +2,7 @@
 use desk_io::FileDesk;
 use route_sweep::FileSlot;
 use router_says::{SystemErrors, append_words};
-use router_top::{Outcome, Ran, Slot, TextFile};
+use run_outcome::{Outcome, Ran, Slot, TextFile};
 use std::io::ErrorKind;
 use std::test::Fail;
 

@@ -13,26 +13,29 @@ use Rattle.route_ways.specs.Way.{copies_by, is_limited}
 use Rattle.sat_clause.specs.declared.limits.TheConstants.{CLAUSE_LIMIT}
 use Rattle.router_words.specs.Refusal.{code_of}
 use Rattle.router_words.specs.declared.fault.Refusal.{Refusal}
-use Rattle.router_top.specs.Bound.{IsTrueOfCut, bound_outcome}
-use Rattle.router_top.specs.Check.{ChecksTo, JudgesTo, VerifiesTo}
-use Rattle.router_top.specs.Decode.{IsTrueOfModel}
-use Rattle.router_top.specs.Generated.{IsTooLarge, Makes, HasRoom, IsTooMany}
-use Rattle.router_top.specs.Method.{HasNone, clauses_by, IsCrowdFor}
-use Rattle.router_top.specs.Placed.{IsJudgement, JudgesPlaced, ReadsRouted}
+use Rattle.run_placed.specs.Bound.{IsTrueOfCut, bound_outcome}
+use Rattle.run_checks.specs.Check.{ChecksTo, JudgesTo, VerifiesTo}
+use Rattle.run_clauses.specs.Decode.{IsTrueOfModel}
+use Rattle.run_made.specs.Generated.{IsTooLarge, Makes, HasRoom, IsTooMany}
+use Rattle.run_clauses.specs.Method.{HasNone, clauses_by, IsCrowdFor}
+use Rattle.run_checks.specs.Placed.{IsJudgement, JudgesPlaced, ReadsRouted}
 use Rattle.router_top.specs.Search.{Search, clauses_held, core_search, route_search, sweep_of, sweep_search, clauses_at}
-use Rattle.router_top.specs.Stopped.{are_timed, is_asked_timed, is_timed}
-use Rattle.router_top.specs.Suited.{IsLeastUnsuited, IsTrueOfSuited, IsUnsuited, Suits, is_suited, obstacle_to}
-use Rattle.router_top.specs.Truth.{Agrees, AreBounds, IsOpenAt, IsOpenBelow, IsReached, IsTrueAt, IsTrueOfDecoding, IsTrueOfEncoding, IsTrueOfJob, IsTrueOfSearch, IsTrueOfSuitedSearch, IsTrueOfWork, IsTrueOfCount, IsTrueBy}
-use Rattle.router_top.specs.Subject.{FileMap, FileNames, IsHalted, RoutingProblem, job_of, Blames, Bounds, CheckAsked, Checks, Decodes, Encodes, Generates, JobAsked, JudgeAsked, Judges, Negotiates, RecipeAsked, Routes, Sweeps, TrialAsked, Tries, Verifies, VerifyAsked, Word, Method, Outcome, Done, NotSymmetric, Undecided, Usage, Narrows}
-use Rattle.router_top.specs.declared.outcome.Obstacle.{Obstacle}
-use Rattle.router_top.proofs.GeneratedLaws.{one-made}
-use Rattle.router_top.proofs.PlacedLaws.{placed-agrees}
-use Rattle.router_top.proofs.GlobalLaws.{global-agrees}
-use Rattle.router_top.proofs.LeastLaws.{least-agrees}
+use Rattle.run_outcome.specs.Stopped.{are_timed, is_asked_timed, is_timed}
+use Rattle.run_clauses.specs.Suited.{IsLeastUnsuited, IsTrueOfSuited, IsUnsuited, Suits, is_suited, obstacle_to}
+use Rattle.run_outcome.specs.Agrees.{Agrees, AreBounds, IsOpenBelow}
+use Rattle.router_top.specs.Truth.{IsOpenAt, IsReached, IsTrueAt, IsTrueOfDecoding, IsTrueOfEncoding, IsTrueOfJob, IsTrueOfSearch, IsTrueOfSuitedSearch, IsTrueOfWork, IsTrueOfCount, IsTrueBy}
+use Rattle.run_outcome.specs.Subject.{FileMap, FileNames, IsHalted, RoutingProblem, job_of, Blames, Bounds, CheckAsked, Checks, Decodes, Encodes, Generates, JobAsked, JudgeAsked, Judges, Negotiates, RecipeAsked, Routes, Sweeps, TrialAsked, Tries, Verifies, VerifyAsked, Word, Method, Narrows}
+use Rattle.run_outcome.specs.declared.outcome.Outcome.{Outcome}
+use Rattle.run_outcome.specs.declared.outcome.Outcome.TheVariants.{Done, NotSymmetric, Undecided, Usage}
+use Rattle.run_outcome.specs.declared.outcome.Obstacle.{Obstacle}
+use Rattle.run_made.proofs.GeneratedLaws.{one-made}
+use Rattle.run_outcome.proofs.PlacedLaws.{placed-agrees}
+use Rattle.run_placed.proofs.GlobalLaws.{global-agrees}
+use Rattle.run_placed.proofs.LeastLaws.{least-agrees}
 use Rattle.router_top.proofs.ServeLaws.{limited-said}
-use Rattle.router_top.proofs.StopLaws.{lack-poses, one-lack}
-use Rattle.router_top.specs.declared.size_cause.SizeCause.{SizeCause}
-use Rattle.router_top.specs.declared.size_cause.SizeCause.TheVariants.{ClausesOfTurns, FormulaClauses}
+use Rattle.run_outcome.proofs.StopLaws.{lack-poses, one-lack}
+use Rattle.run_outcome.specs.declared.size_cause.SizeCause.{SizeCause}
+use Rattle.run_outcome.specs.declared.size_cause.SizeCause.TheVariants.{ClausesOfTurns, FormulaClauses}
 
 -- two true outcomes of the work on a problem are one, or both are true of one problem
 work-agrees : (timed : Bool) (files : FileMap) (names : FileNames)

@@ -10,17 +10,20 @@ use Rattle.route_sweep.specs.declared.found.Found.{Found}
 use Rattle.route_sweep.specs.declared.found.Stop.{Stop}
 use Rattle.route_ways.specs.Way.{copies_by}
 use Rattle.router_top.specs.Comes.{ComesTo, lower_files}
-use Rattle.router_top.specs.Written.{WritesFiles, AreWritten, JobFile, with_files}
+use Rattle.run_outcome.specs.Written.{WritesFiles, AreWritten, JobFile, with_files}
 use Rattle.router_top.specs.JobFiles.{AreFilesOf, IsClimb, LeavesWhole, TakesTurns}
 use Rattle.router_top.specs.Means.{Means}
-use Rattle.router_top.specs.Report.{found_outcome}
-use Rattle.router_top.specs.Run.{Scene}
+use Rattle.run_outcome.specs.Report.{found_outcome}
+use Rattle.run_outcome.specs.Scene.{Scene}
 use Rattle.router_top.specs.Saying.{HasNoLead, IsLead, Leads, more_said}
 use Rattle.router_top.specs.Search.{proof_files, route_file}
 use Rattle.router_top.specs.Truth.{IsTrueOf, IsTrueOfSearch}
 use Rattle.router_top.specs.Work.{Finds}
-use Rattle.router_top.specs.Subject.{Bytes, ShelfState, RouteText, Step, Word, Outcome, Bound, Done, Unroutable, WriteFault, OutOfMemory, Said, Routed, Narrowed, Beyond, Unfound, NoWay, NotLegal}
-use Rattle.router_top.proofs.WrittenLaws.{AreApart}
+use Rattle.run_outcome.specs.Subject.{Bytes, ShelfState, RouteText, Step, Word}
+use Rattle.run_outcome.specs.declared.outcome.Outcome.{Outcome}
+use Rattle.run_outcome.specs.declared.outcome.Outcome.TheVariants.{Bound, Done, Unroutable, WriteFault, OutOfMemory, Routed, Narrowed, Beyond, Unfound, NoWay, NotLegal}
+use Rattle.run_outcome.specs.declared.slot.Slot.TheVariants.{Said}
+use Rattle.run_outcome.proofs.WrittenLaws.{AreApart, AreHeard}
 
 -- no fault of the shelf, no width that is unroutable, no file that is not legal, and nothing that a
 -- cut or a search for a route of a placement tells
@@ -40,16 +43,6 @@ abbrev pub NeedsNoFile : Outcome → Type 0
 NeedsNoFile (WriteFault slot) = ⊥
 NeedsNoFile (Unroutable width) = ⊥
 NeedsNoFile outcome = Unit {0}
-
--- no fault of what is said
-abbrev pub IsHeard : Outcome → Type 0
-IsHeard (WriteFault Said) = ⊥
-IsHeard outcome = Unit {0}
-
--- none of these files is what is said
-abbrev pub AreHeard : List JobFile → Type 0
-AreHeard [] = Unit {0}
-AreHeard (file ∷ files) = IsHeard (WriteFault file.slot) × AreHeard files
 
 -- something kept the run from its work, or it judged a file: nothing was written
 pub record IsIdle (words : List Word) (at : Scene) (o : Outcome) : Type 0 where

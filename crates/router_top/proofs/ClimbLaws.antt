@@ -12,14 +12,14 @@ use Rattle.route_sweep.specs.declared.found.Found.TheVariants.{Routed as IsRoute
 use Rattle.route_sweep.specs.declared.found.Stop.{Stop}
 use Rattle.route_ways.specs.Way.{copies_by, opens_by, refutes_by}
 use Rattle.router_top.specs.Comes.{IsRefutedAt}
-use Rattle.router_top.specs.Method.{IsRoutingBy}
-use Rattle.router_top.specs.Report.{climbed_outcome, found_outcome}
+use Rattle.run_clauses.specs.Method.{IsRoutingBy}
+use Rattle.run_outcome.specs.Report.{climbed_outcome, found_outcome}
 use Rattle.router_top.specs.Search.{HasCrowd, Search, sweep_search, proof_files, clauses_at}
 use Rattle.router_top.specs.Work.{Finds}
-use Rattle.router_top.specs.Written.{JobFile, with_files}
-use Rattle.router_top.specs.Subject.{FileMap, ShelfState, RoutingProblem, Step, SweepAsked}
+use Rattle.run_outcome.specs.Written.{JobFile, with_files}
+use Rattle.run_outcome.specs.Subject.{FileMap, ShelfState, RoutingProblem, Step, SweepAsked}
 use Rattle.router_top.proofs.EndLaws.{refuted-at}
-use Rattle.router_top.proofs.WrittenLaws.{with_files-append}
+use Rattle.run_outcome.proofs.WrittenLaws.{with_files-append}
 
 -- ---- numbers and lists
 

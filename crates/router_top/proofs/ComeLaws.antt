@@ -45,49 +45,56 @@ use Rattle.sat_text.specs.CnfText.{cnf_said}
 use Rattle.sat_text.specs.LratText.{lrat_said}
 use Rattle.router_words.specs.Refusal.{code_of}
 use Rattle.router_words.specs.declared.fault.Refusal.{Refusal}
-use Rattle.router_top.specs.SizeCauses.{size_code}
-use Rattle.router_top.specs.declared.size_cause.SizeCause.TheVariants.{FormulaClauses}
-use Rattle.router_top.specs.Bound.{BoundsTo, IsBounded, IsTrueOfCut, SaysCut, bound_outcome, cut_lines, net_line}
-use Rattle.router_top.specs.Causes.{AreCausesOf, IsIllegal, LeavesVerified, SaysCauses, cause_lines}
-use Rattle.router_top.specs.Check.{JudgesTo, ChecksTo, cnf_source, judgement_outcome, lrat_source, VerifiesTo, judged_outcome}
+use Rattle.run_outcome.specs.SizeCauses.{size_code}
+use Rattle.run_outcome.specs.declared.size_cause.SizeCause.TheVariants.{FormulaClauses}
+use Rattle.run_placed.specs.Bound.{BoundsTo, IsBounded, IsTrueOfCut, SaysCut, bound_outcome, cut_lines, net_line}
+use Rattle.run_checks.specs.Causes.{AreCausesOf, IsIllegal, LeavesVerified, SaysCauses, cause_lines}
+use Rattle.run_checks.specs.Check.{JudgesTo, ChecksTo, cnf_source, judgement_outcome, lrat_source, VerifiesTo, judged_outcome}
 use Rattle.router_top.specs.Comes.{ComesTo, lower_files}
-use Rattle.router_top.specs.Decode.{DecodeLeaves, DecodesProblem, IsTrueOfModel, LeavesClauses, LeavesJudged, LeavesModel, LeavesRouting, ReadsModel, decoded_file, decoded_outcome, model_source}
-use Rattle.router_top.specs.Generated.{PosesNone, generated_files, texts_of}
-use Rattle.router_top.specs.Global.{HasFiles, IsNoWay, IsTrueOfSought, IsWaylessLine, IsWithoutWay, LeavesFound, LeavesSought, SaysNet, found_file}
-use Rattle.router_top.specs.Least.{AreLeastLines, IsCutOfLeast, IsNarrowing, IsOfCut, IsTrueOfLeast, LeavesCut, LeavesWidths, beyond_outcome, last_asked}
+use Rattle.run_clauses.specs.Decode.{DecodeLeaves, DecodesProblem, IsTrueOfModel, LeavesClauses, LeavesJudged, LeavesModel, LeavesRouting, ReadsModel, decoded_file, decoded_outcome, model_source}
+use Rattle.run_made.specs.Generated.{PosesNone, generated_files, texts_of, WritesGenerated}
+use Rattle.run_placed.specs.Global.{HasFiles, IsNoWay, IsTrueOfSought, IsWaylessLine, IsWithoutWay, LeavesFound, LeavesSought, SaysNet, found_file, LeavesGlobal}
+use Rattle.run_placed.specs.Least.{AreLeastLines, IsCutOfLeast, IsNarrowing, IsOfCut, IsTrueOfLeast, LeavesCut, LeavesWidths, beyond_outcome, last_asked, LeavesLeast}
 use Rattle.router_top.specs.JobFiles.{IsClimb, LeavesWhole, TakesTurns}
 use Rattle.router_top.specs.Means.{IsJudgedSo, Means}
-use Rattle.router_top.specs.Method.{IsRoutingBy, clauses_by, IsCrowdFor}
-use Rattle.router_top.specs.Placed.{IsJudgement, IsTrueJudgement, JudgesPlaced, ReadsRouted}
-use Rattle.router_top.specs.Raised.{LeastNames, least_names, narrowed_files}
-use Rattle.router_top.specs.Report.{climbed_outcome, found_outcome, unread_outcome, written_outcome}
-use Rattle.router_top.specs.Suited.{CoreLeaves, LeavesPrepared, EncodeLeaves, IsUnsuited, LeavesSuited, RouteLeaves, Suits, SweepLeaves}
-use Rattle.router_top.specs.Run.{Leaves, LeavesJob, LeavesPlaced, LeavesWork, Scene, TriesGenerated, WritesGenerated, LeavesGlobal, LeavesLeast}
-use Rattle.router_top.specs.Saying.{more_said, AreCauseLines, AreCutLines, AreNetLines, IsOfBound, IsUnroutable, Leads}
+use Rattle.run_clauses.specs.Method.{IsRoutingBy, clauses_by, IsCrowdFor}
+use Rattle.run_checks.specs.Placed.{IsJudgement, IsTrueJudgement, JudgesPlaced, ReadsRouted}
+use Rattle.run_placed.specs.Raised.{LeastNames, least_names, narrowed_files}
+use Rattle.run_outcome.specs.Report.{climbed_outcome, found_outcome, unread_outcome, written_outcome}
+use Rattle.router_top.specs.Core.{CoreLeaves, LeavesCore, SaysBlamed, SaysLead}
+use Rattle.run_clauses.specs.Suited.{LeavesPrepared, IsUnsuited, LeavesSuited, Suits}
+use Rattle.run_clauses.specs.Encode.{EncodeLeaves, Encodes, WritesClauses, clauses_file}
+use Rattle.router_top.specs.Work.{RouteLeaves, SweepLeaves, trial_line, LeavesRoute, Sweeps, Finds}
+use Rattle.router_top.specs.Run.{Leaves, LeavesJob, TriesGenerated}
+use Rattle.run_outcome.specs.Scene.{LeavesPlaced, LeavesWork, Scene}
+use Rattle.router_top.specs.Saying.{more_said, AreCauseLines, AreCutLines, AreNetLines, HasNoLead, IsLead, IsOfBound, IsUnroutable, Leads}
 use Rattle.router_top.specs.Search.{files_of, route_search, search_asked, sweep_of, sweep_search, Search, core_search, lower_widths, proof_files, route_file, HasCrowd, clauses_at}
-use Rattle.router_top.specs.Work.{trial_line, Encodes, LeavesRoute, Sweeps, WritesClauses, clauses_file, Finds}
 use Rattle.router_top.specs.Truth.{IsTrueOf, IsTrueOfCount, IsTrueOfDecoding, IsTrueOfEncoding, IsTrueOfJob, IsTrueOfSearch, IsTrueOfSuitedSearch, IsTrueOfWork}
-use Rattle.router_top.specs.Written.{FailsAmong, JobFile, WritesFiles, with_files, AreWritten}
-use Rattle.router_top.specs.Core.{LeavesCore, SaysBlamed, SaysLead}
+use Rattle.run_outcome.specs.Written.{FailsAmong, JobFile, WritesFiles, with_files, AreWritten}
 use Rattle.router_top.specs.Headline.{IsRefuted}
-use Rattle.router_top.specs.Subject.{Bytes, FileMap, ShelfState, after_say, FileNames, Poses, IsHalted, IsStopped, Says, RoutingProblem, RouteText, HasFew, Cnf, Step, job_of, BoundAsked, Bounds, CheckAsked, Checks, DecodeAsked, Decodes as DecodesJob, EncodeAsked, Encodes as EncodesJob, GenAsked, Generates, JobAsked, JudgeAsked, Judges, Negotiates, RouteAsked, Routes, SweepAsked, Sweeps as SweepsJob, TrialAsked, Tries as TriesJob, Verifies, VerifyAsked, Blames, CoreAsked, Word, Method, Outcome, Bound, Done, NotLegal, ReadFault, InputFault, Usage, WriteFault, OutOfMemory, Unroutable, Limit, File, GlobalAsked, LeastAsked, Narrows, Narrowed, Beyond, Unfound, NoWay, Slot, Routed as IsRoutedAt}
-use Rattle.router_top.specs.declared.text_file.TextFile.TheVariants.{Cnf as CnfFile, Lrat, Model as ModelFile, Routed}
+use Rattle.run_outcome.specs.Subject.{Bytes, FileMap, FailsToSay, ShelfState, after_say, FileNames, Poses, IsHalted, IsStopped, Says, RoutingProblem, RouteText, HasFew, Cnf, Step, job_of, BoundAsked, Bounds, CheckAsked, Checks, DecodeAsked, Decodes as DecodesJob, EncodeAsked, Encodes as EncodesJob, GenAsked, Generates, JobAsked, JudgeAsked, Judges, Negotiates, RouteAsked, Routes, SweepAsked, Sweeps as SweepsJob, TrialAsked, Tries as TriesJob, Verifies, VerifyAsked, Blames, CoreAsked, Word, Method, GlobalAsked, LeastAsked, Narrows}
+use Rattle.run_outcome.specs.declared.outcome.Outcome.{Outcome}
+use Rattle.run_outcome.specs.declared.outcome.Outcome.TheVariants.{Bound, Done, NotLegal, ReadFault, InputFault, Usage, WriteFault, OutOfMemory, Unroutable, Limit, Narrowed, Beyond, Unfound, NoWay, Routed as IsRoutedAt}
+use Rattle.run_outcome.specs.declared.slot.Slot.{Slot}
+use Rattle.run_outcome.specs.declared.slot.Slot.TheVariants.{File, Said}
+use Rattle.run_outcome.specs.declared.text_file.TextFile.TheVariants.{Cnf as CnfFile, Lrat, Model as ModelFile, Routed}
 use Rattle.router_top.proofs.Came.{Came, Cut, HasCome, Idle, IsSpared, NeedsNoFile, Searched, Told, Wrote, ended_with}
 use Rattle.router_top.proofs.ClimbLaws.{climbed-calm, climbed-logs, climbed-outcome, climbed-said}
-use Rattle.router_top.proofs.GeneratedLaws.{made-poses, problem-apart}
-use Rattle.router_top.proofs.GlobalLaws.{calm-lacking, lacking-holds, routing-said}
-use Rattle.router_top.proofs.LeastLaws.{raised-bound, says-at}
+use Rattle.run_made.proofs.GeneratedLaws.{made-poses, problem-apart}
+use Rattle.run_placed.proofs.GlobalLaws.{calm-lacking, lacking-holds, routing-said}
+use Rattle.run_placed.proofs.LeastLaws.{raised-bound, says-at}
 use Rattle.router_top.proofs.LeftLaws.{none-left, log-left}
-use Rattle.router_top.proofs.LiteralLaws.{log_literals}
+use Rattle.run_checks.proofs.LiteralLaws.{log_literals}
 use Rattle.router_top.proofs.NameLaws.{proof-apart, proofs-then-proof, proofs-then-route, route-apart}
-use Rattle.router_top.proofs.PlacedLaws.{calm-placed, placed-lacks-hold}
-use Rattle.router_top.proofs.RaisedLaws.{narrowed-apart, narrowed-heard, reason-from}
+use Rattle.run_outcome.proofs.PlacedLaws.{calm-placed, placed-lacks-hold}
+use Rattle.run_placed.proofs.RaisedLaws.{narrowed-apart, narrowed-heard, reason-from}
 use Rattle.router_top.proofs.SaidLaws.{finds-silent, more-none}
-use Rattle.router_top.proofs.StopLaws.{HoldsOfStops, IsSpent, calm-lack, lacks-hold, reads-hold, unread-holds, unsuited-holds}
+use Rattle.run_outcome.proofs.StopLaws.{HoldsOfStops, IsSpent, calm-lack, lacks-hold, reads-hold, unread-holds}
+use Rattle.run_clauses.proofs.SuitedLaws.{unsuited-holds}
 use Rattle.router_top.proofs.ServeLaws.{crowd-said, one-copy}
-use Rattle.router_top.proofs.WrittenLaws.{AreApart}
+use Rattle.run_outcome.proofs.WrittenLaws.{AreApart}
 use Rattle.router_top.proofs.MeansLaws.{refuted-there}
-use Rattle.router_top.proofs.MethodLaws.{routing-printable}
+use Rattle.run_clauses.proofs.MethodLaws.{routing-printable}
 
 less-itself : (n : ℕ) → n - n ≡ 0
 less-itself n = omega arith
@@ -198,6 +205,69 @@ module _ (words : List Word) (at : Scene) where
     told = told;
   })
 
+  -- of what a job may say before its report, this outcome has nothing
+  abbrev Untold : JobAsked → Outcome → Type 0
+  Untold (Blames job) o = ¬ IsUnroutable o
+  Untold (Bounds job) o = ¬ IsOfBound o
+  Untold (Narrows job) o = ¬ IsNarrowing o
+  Untold (Negotiates job) o = ¬ IsNoWay o
+  Untold (Verifies job) o = job.all ≡ true → ¬ IsIllegal o
+  Untold (TriesJob job) o = PosesNone job.recipe o
+  Untold job o = Unit {0}
+
+  no-lead : (job : JobAsked) → job_of words ≡ Ok job → (o : Outcome) → Untold job o
+      → HasNoLead words o
+  no-lead job asked o untold = record {
+    no_trial = λ other is. told-by (TriesJob other) is;
+    no_nets = λ other is. told-by (Blames other) is;
+    no_cut = λ other is. told-by (Bounds other) is;
+    no_span = λ other is. told-by (Narrows other) is;
+    no_net = λ other is. told-by (Negotiates other) is;
+    no_cause = λ other is. told-by (Verifies other) is;
+  }
+    where
+      told-by : (other : JobAsked) → job_of words ≡ Ok other → Untold other o
+      told-by other is =
+          let same : job ≡ other = cc in subst (λ (j : JobAsked). Untold j o) same untold
+
+  unled : (job : JobAsked) → job_of words ≡ Ok job → (o : Outcome) → Untold job o
+      → Leads words at.desk.files at.shelf.files at.shelf_now.files o []
+  unled job asked o untold = inr (refl, no-lead job asked o untold)
+
+  abbrev Led : Outcome → Bytes → Type 0
+  Led = IsLead words at.desk.files at.shelf.files at.shelf_now.files
+
+  -- this was said before the report, and no file was written
+  led : (o : Outcome) (lead : Bytes) → at.shelf_now ≡ after_say at.shelf lead → NeedsNoFile o
+      → Led o lead → MeansHere o → IsTrueOf words at.desk.files o ⊎ (o ≡ OutOfMemory)
+      → Came words at o
+  led o lead now fileless leads means told = Told (record {
+    fileless = fileless;
+    files = ap (λ (s : ShelfState). s.files) now;
+    faults = ap (λ (s : ShelfState). s.faults) now;
+    lead = lead;
+    leads = inl leads;
+    said = ap (λ (s : ShelfState). s.said) now;
+    means = means;
+    told = told;
+  })
+
+  -- a front part of it was, where this outcome was to be reported
+  cut-short : (outcome : Outcome) (lead : Bytes) → Led outcome lead
+      → FailsToSay at.shelf lead at.shelf_now → (o : Outcome) → o ≡ WriteFault Said
+      → Came words at o
+  cut-short outcome lead leads fails o is = Cut (record {
+    is = is;
+    whole = none-left words at.desk.files at.shelf.files at.shelf_now.files fails.failed.files;
+    risen = has_risen _ _ fails.failed.risen;
+    outcome = outcome;
+    lead = lead;
+    leads = leads;
+    count = fails.count;
+    within = fails.within;
+    said = fails.failed.said;
+  })
+
   -- nothing was said, and it is told why
   abbrev IsTelling : Outcome → Type 0
   IsTelling o = IsTold o → Came words at o
@@ -214,27 +284,17 @@ module _ (words : List Word) (at : Scene) where
 
   -- a routed file was judged so, and nothing was said before that
   verdict-came : (judgement : Judged) (o : Outcome) → o ≡ judged_outcome judgement
-      → IsJudgedSo words at.desk.files judgement → at.shelf_now ≡ at.shelf → NoTrial o
-      → ((job : VerifyAsked) → job_of words ≡ Ok (Verifies job) → job.all ≡ true → ¬ IsIllegal o)
-      → IsTrueOf words at.desk.files o → Came words at o
-  verdict-came IsLegal o is means same none untold truth =
-      idle o same none (subst Spares (sym is) (tt, means)) (λ calm. inl truth)
-  verdict-came (IsNotLegal line cause) o is means same none untold truth = Told (record {
+      → IsJudgedSo words at.desk.files judgement → at.shelf_now ≡ at.shelf → (job : JobAsked)
+      → job_of words ≡ Ok job → Untold job o → IsTrueOf words at.desk.files o → Came words at o
+  verdict-came IsLegal o is means same job asked untold truth =
+      idle o same (no-lead job asked o untold).no_trial (subst Spares (sym is) (tt, means))
+      (λ calm. inl truth)
+  verdict-came (IsNotLegal line cause) o is means same job asked untold truth = Told (record {
     fileless = subst NeedsNoFile (sym is) tt;
     files = ap (λ (s : ShelfState). s.files) same;
     faults = ap (λ (s : ShelfState). s.faults) same;
     lead = [];
-    leads = inr (
-      refl,
-      record {
-        no_trial = none;
-        no_nets = λ other is_core. subst (λ (o : Outcome). ¬ IsUnroutable o) (sym is) (λ bad. bad);
-        no_cut = λ other is_bound. subst (λ (o : Outcome). ¬ IsOfBound o) (sym is) (λ bad. bad);
-        no_span = λ other is_least. subst (λ (o : Outcome). ¬ IsNarrowing o) (sym is) (λ bad. bad);
-        no_net = λ other is_net. subst (λ (o : Outcome). ¬ IsNoWay o) (sym is) (λ bad. bad);
-        no_cause = untold;
-      },
-    );
+    leads = unled job asked o untold;
     said = ap (λ (s : ShelfState). s.said) same ∙ sym (more-none at.shelf.said);
     means = subst MeansHere (sym is) means;
     told = inl truth;
@@ -360,17 +420,7 @@ module _ (words : List Word) (at : Scene) where
       files = refl;
       faults = refl;
       lead = [];
-      leads = inr (
-        refl,
-        record {
-          no_trial = λ other is. cc;
-          no_nets = λ other is unroutable. cc;
-          no_cut = λ other is bound. cc;
-          no_span = λ other is narrowing. cc;
-          no_net = λ other is way. cc;
-          no_cause = λ other is all not_legal. cc;
-        },
-      );
+      leads = unled (Routes job) asked o tt;
       said = finds-silent (route_search job h.crowd) p job.search.width at.shelf at.shelf_now h.came
           h.finds ∙ sym (more-none at.shelf.said);
     })
@@ -400,17 +450,8 @@ module _ (words : List Word) (at : Scene) where
       files = ap (λ (s : ShelfState). s.files) same;
       faults = ap (λ (s : ShelfState). s.faults) same;
       lead = [];
-      leads = inr (
-        refl,
-        record {
-          no_trial = λ other is. cc;
-          no_nets = λ other is_core unroutable. routable (subst IsUnroutable is unroutable);
-          no_cut = λ other is_bound bound. cc;
-          no_span = λ other is_span narrowing. cc;
-          no_net = λ other is_net way. cc;
-          no_cause = λ other is all not_legal. cc;
-        },
-      );
+      leads = unled (Blames job) asked o
+          (λ unroutable. routable (subst IsUnroutable is unroutable));
       said = ap (λ (s : ShelfState). s.said) same
           ∙ finds-silent (core_search job crowd) p job.width at.shelf wrote came finds
           ∙ sym (more-none at.shelf.said);
@@ -649,17 +690,7 @@ module _ (words : List Word) (at : Scene) where
       apart = (tt, tt);
       heard = (tt, tt);
       writes = inl (is, h.2);
-      leads = inr (
-        refl,
-        record {
-          no_trial = λ other is. cc;
-          no_nets = λ other is unroutable. cc;
-          no_cut = λ other is bound. cc;
-          no_span = λ other is narrowing. cc;
-          no_net = λ other is way. cc;
-          no_cause = λ other is all not_legal. cc;
-        },
-      );
+      leads = unled (EncodesJob job) asked o tt;
       means = λ done written. inl (record {
         job = job;
         p = p;
@@ -700,17 +731,7 @@ module _ (words : List Word) (at : Scene) where
         inl (refl, h.2),
         is ∙ ap (λ (s : FileSlot). WriteFault (File s)) h.0,
       );
-      leads = inr (
-        refl,
-        record {
-          no_trial = λ other is. cc;
-          no_nets = λ other is unroutable. cc;
-          no_cut = λ other is bound. cc;
-          no_span = λ other is narrowing. cc;
-          no_net = λ other is way. cc;
-          no_cause = λ other is all not_legal. cc;
-        },
-      );
+      leads = unled (EncodesJob job) asked o tt;
       means = λ done written. cc;
       told = encode-true Done (inr (suits, (known, inr (h.1, refl))));
     })
@@ -788,17 +809,7 @@ module _ (words : List Word) (at : Scene) where
             apart = (tt, tt);
             heard = (tt, tt);
             writes = h;
-            leads = inr (
-              refl,
-              record {
-                no_trial = λ other is. cc;
-                no_nets = λ other is unroutable. cc;
-                no_cut = λ other is bound. cc;
-                no_span = λ other is narrowing. cc;
-                no_net = λ other is way. cc;
-                no_cause = λ other is all not_legal. cc;
-              },
-            );
+            leads = unled (DecodesJob job) asked o tt;
             means = λ done written. inr (inr (record {
               model = model-read;
               width_is = refl;
@@ -947,11 +958,6 @@ module _ (words : List Word) (at : Scene) where
       | inr short ↦ inr short
     ])
       where
-        untold : (other : VerifyAsked) → job_of words ≡ Ok (Verifies other) → other.all ≡ true
-            → ¬ IsIllegal o
-        untold other is all =
-            let one : other ≡ job = cc in none (subst (λ (j : VerifyAsked). j.all ≡ true) one all)
-
         go : VerifiesTo (IsStopped at.desk at.desk_now) at.desk.files job o → IsTold o
             → Came words at o
         go (inl lack) = lacks-hold IsTelling (stops-come same (λ o other is. cc))
@@ -968,7 +974,7 @@ module _ (words : List Word) (at : Scene) where
               reads = says;
               is = refl;
             }))
-            same (λ other is_trial. cc) untold
+            same (Verifies job) asked none
             (true-of (Verifies job) asked o (inr (p, poses, Reads found says is))))
 
     -- a line was said for each cause
@@ -986,40 +992,24 @@ module _ (words : List Word) (at : Scene) where
       causes-came : (o : Outcome)
           → SaysCauses told.found.nets told.first told.more at.shelf at.shelf_now o
           → Came words at o
-      causes-came o (inl (now, is)) = subst (Came words at) (sym is) (Told (record {
-        fileless = tt;
-        files = ap (λ (s : ShelfState). s.files) now;
-        faults = ap (λ (s : ShelfState). s.faults) now;
-        lead = lines;
-        leads = inl (inr (inr (inr (inr (inr causes-told)))));
-        said = ap (λ (s : ShelfState). s.said) now;
-        means = inl (record {
-          job = job;
-          p = told.p;
-          found = told.found;
-          asked = asked;
-          poses = told.poses;
-          reads = told.reads;
-          is = told.are.first;
-        });
-        told = inl (true-of (Verifies job) asked first_outcome (inr (
-          told.p,
-          told.poses,
-          Reads told.found told.reads (ap judged_outcome (sym told.are.first)),
-        )));
-      }))
-      causes-came o (inr (fails, is)) = Cut (record {
-        is = is;
-        whole = none-left words at.desk.files at.shelf.files at.shelf_now.files
-            fails.failed.files;
-        risen = has_risen _ _ fails.failed.risen;
-        outcome = first_outcome;
-        lead = lines;
-        leads = inr (inr (inr (inr (inr causes-told))));
-        count = fails.count;
-        within = fails.within;
-        said = fails.failed.said;
-      })
+      causes-came o (inl (now, is)) = subst (Came words at) (sym is)
+          (led first_outcome lines now tt (inr (inr (inr (inr (inr causes-told)))))
+          (inl (record {
+            job = job;
+            p = told.p;
+            found = told.found;
+            asked = asked;
+            poses = told.poses;
+            reads = told.reads;
+            is = told.are.first;
+          }))
+          (inl (true-of (Verifies job) asked first_outcome (inr (
+            told.p,
+            told.poses,
+            Reads told.found told.reads (ap judged_outcome (sym told.are.first)),
+          )))))
+      causes-came o (inr (fails, is)) = cut-short first_outcome lines
+          (inr (inr (inr (inr (inr causes-told))))) fails o is
 
     verify-came : (o : Outcome)
         → LeavesVerified (IsStopped at.desk at.desk_now) at.desk.files job at.shelf at.shelf_now o
@@ -1067,7 +1057,7 @@ module _ (words : List Word) (at : Scene) where
               is = refl;
               says = is.1;
             }))
-            same (λ other is_trial. cc) (λ other is_verify all. cc)
+            same (Judges job) asked tt
             (true-of (Judges job) asked o (inr (placed, poses, Reads found says is.0))))
 
   -- ---- a cut of a placement
@@ -1102,29 +1092,12 @@ module _ (words : List Word) (at : Scene) where
 
       said-came : (o : Outcome) → SaysCut placed.netlist cut at.shelf at.shelf_now o
           → Came words at o
-      said-came o (inl (now, is)) = subst (Came words at) (sym is) (Told (record {
-        fileless = tt;
-        files = ap (λ (s : ShelfState). s.files) now;
-        faults = ap (λ (s : ShelfState). s.faults) now;
-        lead = cut_lines placed.netlist cut;
-        leads = inl (inr (inr (inl cut-named)));
-        said = ap (λ (s : ShelfState). s.said) now;
-        means = bounded;
-        told = inl (true-of (Bounds job) asked (bound_outcome cut)
-            (inr (placed, poses, (cut, best, refl))));
-      }))
-      said-came o (inr (fails, is)) = Cut (record {
-        is = is;
-        whole = none-left words at.desk.files at.shelf.files at.shelf_now.files
-            fails.failed.files;
-        risen = has_risen _ _ fails.failed.risen;
-        outcome = bound_outcome cut;
-        lead = cut_lines placed.netlist cut;
-        leads = inr (inr (inl cut-named));
-        count = fails.count;
-        within = fails.within;
-        said = fails.failed.said;
-      })
+      said-came o (inl (now, is)) = subst (Came words at) (sym is)
+          (led (bound_outcome cut) (cut_lines placed.netlist cut) now tt (inr (inr (inl cut-named)))
+          bounded (inl (true-of (Bounds job) asked (bound_outcome cut)
+          (inr (placed, poses, (cut, best, refl))))))
+      said-came o (inr (fails, is)) = cut-short (bound_outcome cut) (cut_lines placed.netlist cut)
+          (inr (inr (inl cut-named))) fails o is
 
     bound-came : (o : Outcome) → LeavesPlaced job.files BoundsTo at o → Came words at o
     bound-came o (inl (none, same)) = idle o same (λ other is. cc)
@@ -1156,17 +1129,7 @@ module _ (words : List Word) (at : Scene) where
       files = ap (λ (s : ShelfState). s.files) same;
       faults = ap (λ (s : ShelfState). s.faults) same;
       lead = [];
-      leads = inr (
-        refl,
-        record {
-          no_trial = λ other is. cc;
-          no_nets = λ other is unroutable. cc;
-          no_cut = λ other is bound. cc;
-          no_span = λ other is narrowing. cc;
-          no_net = λ other is way. way;
-          no_cause = λ other is all not_legal. cc;
-        },
-      );
+      leads = unled (Negotiates job) asked (Unfound job.width rounds stopped) (λ way. way);
       said = ap (λ (s : ShelfState). s.said) same ∙ sym (more-none at.shelf.said);
       means = inl (record {
         job = job;
@@ -1204,18 +1167,8 @@ module _ (words : List Word) (at : Scene) where
       apart = (tt, tt);
       heard = (tt, tt);
       writes = h;
-      leads = inr (
-        refl,
-        record {
-          no_trial = λ other is. cc;
-          no_nets = λ other is unroutable. cc;
-          no_cut = λ other is bound. cc;
-          no_span = λ other is narrowing. cc;
-          no_net = λ other is. written-wayless job.width (found_file job found ∷ []) at.shelf
-              at.shelf_now o h;
-          no_cause = λ other is all not_legal. cc;
-        },
-      );
+      leads = unled (Negotiates job) asked o
+          (written-wayless job.width (found_file job found ∷ []) at.shelf at.shelf_now o h);
       means = λ done written. inr (inl (record {
         job = job;
         asked = asked;
@@ -1259,28 +1212,13 @@ module _ (words : List Word) (at : Scene) where
           → Came words at o
       wayless-came o (inl (now, is)) =
           let same = ap (λ (s : ShelfState). s.files) now in
-          subst (Came words at) (sym is) (Told (record {
-            fileless = tt;
-            files = same;
-            faults = ap (λ (s : ShelfState). s.faults) now;
-            lead = net_line placed.netlist unreached.net;
-            leads = inl (inr (inr (inr (inr (inl (wayless-line same))))));
-            said = ap (λ (s : ShelfState). s.said) now;
-            means = wayless same;
-            told = inl (global-true placed has (NoWay job.width) (inl (unreached, first, refl)));
-          }))
-      wayless-came o (inr (fails, is)) = Cut (record {
-        is = is;
-        whole = none-left words at.desk.files at.shelf.files at.shelf_now.files
-            fails.failed.files;
-        risen = has_risen _ _ fails.failed.risen;
-        outcome = NoWay job.width;
-        lead = net_line placed.netlist unreached.net;
-        leads = inr (inr (inr (inr (inl (wayless-line fails.failed.files)))));
-        count = fails.count;
-        within = fails.within;
-        said = fails.failed.said;
-      })
+          subst (Came words at) (sym is)
+          (led (NoWay job.width) (net_line placed.netlist unreached.net) now tt
+          (inr (inr (inr (inr (inl (wayless-line same)))))) (wayless same)
+          (inl (global-true placed has (NoWay job.width) (inl (unreached, first, refl)))))
+      wayless-came o (inr (fails, is)) =
+          cut-short (NoWay job.width) (net_line placed.netlist unreached.net)
+          (inr (inr (inr (inr (inl (wayless-line fails.failed.files)))))) fails o is
 
     sought-came : (placed : PlacedNetlist) → HasFiles at.desk.files job placed → (o : Outcome)
         → LeavesSought job placed at.shelf at.shelf_now o → Came words at o
@@ -1329,16 +1267,8 @@ module _ (words : List Word) (at : Scene) where
       told-cut : (o : Outcome) → at.shelf_now ≡ after_say at.shelf said-first → NeedsNoFile o
           → IsOfCut cut o → MeansHere o → IsTrueOf words at.desk.files o ⊎ (o ≡ OutOfMemory)
           → Came words at o
-      told-cut o now fileless tells means told = Told (record {
-        fileless = fileless;
-        files = ap (λ (s : ShelfState). s.files) now;
-        faults = ap (λ (s : ShelfState). s.faults) now;
-        lead = said-first;
-        leads = inl (inr (inr (inr (inl (least-lines o tells)))));
-        said = ap (λ (s : ShelfState). s.said) now;
-        means = means;
-        told = told;
-      })
+      told-cut o now fileless tells =
+          led o said-first now fileless (inr (inr (inr (inl (least-lines o tells)))))
 
       widths-came : (o : Outcome)
           → LeavesWidths job placed cut (after_say at.shelf said-first) at.shelf_now o
@@ -1420,18 +1350,8 @@ module _ (words : List Word) (at : Scene) where
       })
 
       cut-came : (o : Outcome) → LeavesCut job placed cut at.shelf at.shelf_now o → Came words at o
-      cut-came o (inl (fails, is)) = Cut (record {
-        is = is;
-        whole = none-left words at.desk.files at.shelf.files at.shelf_now.files
-            fails.failed.files;
-        risen = has_risen _ _ fails.failed.risen;
-        outcome = OutOfMemory;
-        lead = said-first;
-        leads = inr (inr (inr (inl (least-lines OutOfMemory tt))));
-        count = fails.count;
-        within = fails.within;
-        said = fails.failed.said;
-      })
+      cut-came o (inl (fails, is)) = cut-short OutOfMemory said-first
+          (inr (inr (inr (inl (least-lines OutOfMemory tt))))) fails o is
       cut-came o (inr h) = widths-came o h
 
     least-came : (o : Outcome) → LeavesLeast job at o → Came words at o
@@ -1466,17 +1386,7 @@ module _ (words : List Word) (at : Scene) where
       apart = problem-apart job.prefix (texts_of job.recipe);
       heard = (tt, (tt, (tt, (tt, tt))));
       writes = h;
-      leads = inr (
-        refl,
-        record {
-          no_trial = λ other is. cc;
-          no_nets = λ other is unroutable. cc;
-          no_cut = λ other is bound. cc;
-          no_span = λ other is narrowing. cc;
-          no_net = λ other is way. cc;
-          no_cause = λ other is all not_legal. cc;
-        },
-      );
+      leads = unled (Generates job) asked o tt;
       means = λ done written.
           inr (record { job = job; asked = asked; room = room; written = written });
       told = true-of (Generates job) asked Done (inr (room, refl));
@@ -1505,17 +1415,8 @@ module _ (words : List Word) (at : Scene) where
         (λ crowd says h. true-by (TriesJob job) asked crowd says (inr (inr (p, makes, h))))
         (after_say at.shelf (trial_line p)) refl refl (trial_line p) refl o
         (inl (inl (record { job = job; asked = asked; p = p; makes = makes; is = refl }))) h
-    trial-came o (inr (p, makes, inr h)) = Cut (record {
-      is = h.1;
-      whole = none-left words at.desk.files at.shelf.files at.shelf_now.files h.0.failed.files;
-      risen = has_risen _ _ h.0.failed.risen;
-      outcome = o;
-      lead = trial_line p;
-      leads = inl (record { job = job; asked = asked; p = p; makes = makes; is = refl });
-      count = h.0.count;
-      within = h.0.within;
-      said = h.0.failed.said;
-    })
+    trial-came o (inr (p, makes, inr (fails, is))) = cut-short o (trial_line p)
+        (inl (record { job = job; asked = asked; p = p; makes = makes; is = refl })) fails o is
 
   -- ---- each job
 
@@ -1543,17 +1444,7 @@ module _ (words : List Word) (at : Scene) where
       (λ crowd says told. true-by (SweepsJob job) asked crowd says
       (inr (p, poses, inr (suits, told))))
       at.shelf refl refl [] (sym (more-none at.shelf.said)) o
-      (inr (
-        refl,
-        record {
-          no_trial = λ other is. cc;
-          no_nets = λ other is unroutable. cc;
-          no_cut = λ other is bound. cc;
-          no_span = λ other is narrowing. cc;
-          no_net = λ other is way. cc;
-          no_cause = λ other is all not_legal. cc;
-        },
-      ))))) h
+      (unled (SweepsJob job) asked o tt)))) h
   job-came (EncodesJob job) o asked h =
       work-came (EncodesJob job) asked job.files (IsTrueOfEncoding job []) (EncodeLeaves job) o
       (λ told. told) (λ other is. cc)

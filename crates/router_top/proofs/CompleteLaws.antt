@@ -16,22 +16,26 @@ use Rattle.route_sweep.specs.declared.found.Stop.TheVariants.{Fault, TooManyClau
 use Rattle.route_ways.specs.Way.{MayEndAfter}
 use Rattle.route_ways.proofs.WayLaws.{way-ends}
 use Rattle.sat_clause.specs.declared.limits.TheConstants.{CLAUSE_LIMIT}
-use Rattle.router_top.specs.SizeCauses.{size_code}
-use Rattle.router_top.specs.declared.size_cause.SizeCause.TheVariants.{FormulaClauses, ClausesOfTurns}
-use Rattle.router_top.specs.Written.{FailsAmong, WritesFiles, JobFile}
+use Rattle.run_outcome.specs.SizeCauses.{size_code}
+use Rattle.run_outcome.specs.declared.size_cause.SizeCause.TheVariants.{FormulaClauses, ClausesOfTurns}
+use Rattle.run_outcome.specs.Written.{FailsAmong, WritesFiles, JobFile}
 use Rattle.router_top.specs.Comes.{EndsSearch}
-use Rattle.router_top.specs.Method.{IsRoutingBy}
-use Rattle.router_top.specs.Report.{found_outcome, line_of}
-use Rattle.router_top.specs.Run.{Runs, Scene, scene}
+use Rattle.run_clauses.specs.Method.{IsRoutingBy}
+use Rattle.run_outcome.specs.Report.{found_outcome, line_of}
+use Rattle.router_top.specs.Run.{Runs}
+use Rattle.run_outcome.specs.Scene.{Scene, scene}
 use Rattle.router_top.specs.Search.{Search, clauses_held, clauses_at}
 use Rattle.router_top.specs.Truth.{AgreeByCrowd, IsComplete, IsReached, IsTrueAt, IsTrueOf, IsTrueOfCount}
 use Rattle.router_top.specs.Work.{Finds}
-use Rattle.router_top.specs.Subject.{DeskState, Bytes, FileMap, ShelfState, after_say, RouteText, Cnf, Step, Word, Outcome, Routed, Unroutable, Undecided, Limit, OutOfMemory, Slot}
+use Rattle.run_outcome.specs.Subject.{DeskState, Bytes, FileMap, ShelfState, after_say, RouteText, Cnf, Step, Word}
+use Rattle.run_outcome.specs.declared.outcome.Outcome.{Outcome}
+use Rattle.run_outcome.specs.declared.outcome.Outcome.TheVariants.{Routed, Unroutable, Undecided, Limit, OutOfMemory}
+use Rattle.run_outcome.specs.declared.slot.Slot.{Slot}
 use Rattle.router_top.proofs.AgreeLaws.{outcomes-agree}
 use Rattle.router_top.proofs.Came.{Came, Cut, HasCome, HasWritten, Idle, Searched, Told, Wrote, ended_with}
 use Rattle.router_top.proofs.EndLaws.{refutes-none}
-use Rattle.router_top.proofs.GeneratedLaws.{faults-after}
-use Rattle.router_top.proofs.MethodLaws.{one-legal}
+use Rattle.run_outcome.proofs.WrittenLaws.{faults-after}
+use Rattle.run_clauses.proofs.MethodLaws.{one-legal}
 
 -- ---- the shelf's count of faults
 

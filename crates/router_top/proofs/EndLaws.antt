@@ -8,10 +8,10 @@ use Rattle.route_ways.specs.Way.{copies_by, is_counting}
 use Rattle.sat_text.specs.CnfText.{ReadsCnf}
 use Rattle.sat_text.specs.Printed.{cnf_text}
 use Rattle.router_top.specs.Comes.{IsRefutedAt, Refutes}
-use Rattle.router_top.specs.Method.{HasNone}
+use Rattle.run_clauses.specs.Method.{HasNone}
 use Rattle.router_top.specs.Search.{HasCrowd, Search, clauses_at}
-use Rattle.router_top.specs.Subject.{Bytes, RoutingProblem, Step}
-use Rattle.router_top.proofs.MethodLaws.{covers-strict, none-legal}
+use Rattle.run_outcome.specs.Subject.{Bytes, RoutingProblem, Step}
+use Rattle.run_clauses.proofs.MethodLaws.{covers-strict, none-legal}
 
 module _ (search : Search) (width : ℕ) (p : RoutingProblem) (log : List Step) (lead : Bytes)
     (given : IsGiven p) (fits : Fits p) (crowd : HasCrowd search p)

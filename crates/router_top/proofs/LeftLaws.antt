@@ -11,7 +11,6 @@ use Rattle.list_laws.proofs.Places.{some_is}
 use Rattle.route_sweep.specs.Names.{cnf_name, lrat_name}
 use Rattle.route_sweep.specs.Written.{after_clauses}
 use Rattle.route_sweep.specs.declared.found.FileSlot.{FileSlot}
-use Rattle.route_sweep.specs.declared.found.FileSlot.{FileSlot}
 use Rattle.route_sweep.specs.declared.found.FileSlot.TheVariants.{Route as RouteSlot, Clauses, Log}
 use Rattle.route_sweep.specs.declared.found.Found.{Found}
 use Rattle.route_sweep.specs.declared.found.Found.TheVariants.{Routed as IsRouted, Refuted, Spent}
@@ -21,17 +20,21 @@ use Rattle.route_ways.specs.Way.{copies_by}
 use Rattle.sat_clause.specs.declared.limits.TheConstants.{CLAUSE_LIMIT}
 use Rattle.sat_text.specs.Printed.{cnf_text, log_text}
 use Rattle.router_top.specs.Comes.{lower_files, EndsSearch}
-use Rattle.router_top.specs.Written.{FailsAmong, WritesFiles, JobFile, with_file, with_files}
+use Rattle.run_outcome.specs.Written.{FailsAmong, WritesFiles, JobFile, with_file, with_files}
 use Rattle.router_top.specs.JobFiles.{AreFilesOf, AreFound, IsBegun, LeavesFiles, LeavesPart, LeavesWhole}
-use Rattle.router_top.specs.Report.{found_outcome, unsaid}
-use Rattle.router_top.specs.Run.{Runs, Scene, scene}
+use Rattle.run_outcome.specs.Report.{found_outcome, unsaid}
+use Rattle.router_top.specs.Run.{Runs}
+use Rattle.run_outcome.specs.Scene.{Scene, scene}
 use Rattle.router_top.specs.Search.{proof_files, route_file, clauses_at}
 use Rattle.router_top.specs.Work.{Finds}
-use Rattle.router_top.specs.Subject.{DeskState, Bytes, FileMap, ShelfState, HasFew, Cnf, Step, Word, Outcome, InputFault, Limit, NotSymmetric, ReadFault, Unroutable, Usage, WriteFault, Slot, Said, File, Done, Routed, Unfound, NoWay, NotModel, Narrowed, Beyond}
-use Rattle.router_top.proofs.Came.{AreHeard, Came, Cut, HasCome, HasWritten, Idle, IsHeard, IsSpared, NeedsNoFile, Searched, Told, Wrote, ended_with, IsDone}
-use Rattle.router_top.proofs.GeneratedLaws.{files-after}
+use Rattle.run_outcome.specs.Subject.{DeskState, Bytes, FileMap, ShelfState, HasFew, Cnf, Step, Word}
+use Rattle.run_outcome.specs.declared.outcome.Outcome.{Outcome}
+use Rattle.run_outcome.specs.declared.outcome.Outcome.TheVariants.{InputFault, Limit, NotSymmetric, ReadFault, Unroutable, Usage, WriteFault, Done, Routed, Unfound, NoWay, NotModel, Narrowed, Beyond}
+use Rattle.run_outcome.specs.declared.slot.Slot.{Slot}
+use Rattle.run_outcome.specs.declared.slot.Slot.TheVariants.{Said, File}
+use Rattle.run_outcome.proofs.WrittenLaws.{AreHeard, IsHeard, files-after, AreApart, NoneHas, Stand, all-stand, are-written, get-other, with_files-append, written-stand}
+use Rattle.router_top.proofs.Came.{Came, Cut, HasCome, HasWritten, Idle, IsSpared, NeedsNoFile, Searched, Told, Wrote, ended_with, IsDone}
 use Rattle.router_top.proofs.SlotNameLaws.{part-named}
-use Rattle.router_top.proofs.WrittenLaws.{AreApart, NoneHas, Stand, all-stand, are-written, get-other, with_files-append, written-stand}
 
 -- ---- names that differ
 

@@ -10,19 +10,21 @@ use Rattle.route_sweep.specs.declared.found.Stop.TheVariants.{Fault, TooManyClau
 use Rattle.route_ways.specs.Way.{MayEndAfter}
 use Rattle.route_ways.proofs.WayLaws.{way-ends}
 use Rattle.router_top.specs.Comes.{lower_files}
-use Rattle.router_top.specs.Written.{WritesFiles, AreWritten, JobFile, with_files}
+use Rattle.run_outcome.specs.Written.{WritesFiles, AreWritten, JobFile, with_files}
 use Rattle.router_top.specs.Headline.{IsRefuted}
 use Rattle.router_top.specs.Means.{Means}
-use Rattle.router_top.specs.Report.{found_outcome, unsaid}
-use Rattle.router_top.specs.Run.{Runs, Scene, scene}
+use Rattle.run_outcome.specs.Report.{found_outcome, unsaid}
+use Rattle.router_top.specs.Run.{Runs}
+use Rattle.run_outcome.specs.Scene.{Scene, scene}
 use Rattle.router_top.specs.Search.{proof_files, route_file, clauses_at}
 use Rattle.router_top.specs.Work.{Finds}
-use Rattle.router_top.specs.Subject.{DeskState, FileMap, ShelfState, Word, Outcome, WriteFault}
+use Rattle.run_outcome.specs.Subject.{DeskState, FileMap, ShelfState, Word}
+use Rattle.run_outcome.specs.declared.outcome.Outcome.{Outcome}
+use Rattle.run_outcome.specs.declared.outcome.Outcome.TheVariants.{WriteFault}
 use Rattle.router_top.proofs.Came.{Came, Cut, HasCome, HasWritten, Idle, Searched, Told, Wrote, ended_with}
 use Rattle.router_top.proofs.EndLaws.{refuted-at}
-use Rattle.router_top.proofs.GeneratedLaws.{files-after}
-use Rattle.router_top.proofs.MethodLaws.{routing-printable}
-use Rattle.router_top.proofs.WrittenLaws.{AreApart, are-written, with_files-append}
+use Rattle.run_outcome.proofs.WrittenLaws.{files-after, AreApart, are-written, with_files-append}
+use Rattle.run_clauses.proofs.MethodLaws.{routing-printable}
 
 module _ (words : List Word) (at : Scene) where
   -- what an outcome means behind this work

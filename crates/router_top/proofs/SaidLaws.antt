@@ -9,14 +9,20 @@ use Rattle.route_sweep.specs.declared.found.Found.{Found}
 use Rattle.route_sweep.specs.declared.found.Found.TheVariants.{Routed as IsRouted, Refuted, Spent}
 use Rattle.route_sweep.specs.declared.found.Stop.{Stop}
 use Rattle.route_sweep.specs.declared.found.Stop.TheVariants.{Fault, TooManyClauses, TooManyHeld, Memory}
-use Rattle.router_top.specs.Written.{FailsAmong, WritesFiles, after_files, JobFile}
-use Rattle.router_top.specs.Report.{found_outcome, line_of, unsaid}
-use Rattle.router_top.specs.Run.{Reports, Runs, Scene, scene}
+use Rattle.run_outcome.specs.Written.{FailsAmong, WritesFiles, after_files, JobFile}
+use Rattle.run_outcome.specs.Report.{found_outcome, line_of, unsaid, Reports}
+use Rattle.router_top.specs.Run.{Runs}
+use Rattle.run_outcome.specs.Scene.{Scene, scene}
 use Rattle.router_top.specs.Saying.{IsLead, Leads, Speaks, more_said}
 use Rattle.router_top.specs.Search.{Search, clauses_at}
 use Rattle.router_top.specs.Work.{Finds}
-use Rattle.router_top.specs.Subject.{DeskState, Bytes, FileMap, ShelfState, RoutingProblem, Word, Outcome, WriteFault, Slot, Said}
-use Rattle.router_top.proofs.Came.{Came, Cut, HasWritten, Idle, IsCut, IsHeard, IsSpared, NeedsNoFile, Searched, Told, Wrote, IsDone}
+use Rattle.run_outcome.specs.Subject.{DeskState, Bytes, FileMap, ShelfState, RoutingProblem, Word}
+use Rattle.run_outcome.specs.declared.outcome.Outcome.{Outcome}
+use Rattle.run_outcome.specs.declared.outcome.Outcome.TheVariants.{WriteFault}
+use Rattle.run_outcome.specs.declared.slot.Slot.{Slot}
+use Rattle.run_outcome.specs.declared.slot.Slot.TheVariants.{Said}
+use Rattle.router_top.proofs.Came.{Came, Cut, HasWritten, Idle, IsCut, IsSpared, NeedsNoFile, Searched, Told, Wrote, IsDone}
+use Rattle.run_outcome.proofs.WrittenLaws.{IsHeard}
 use Rattle.router_top.proofs.LeftLaws.{among-heard}
 
 -- ---- texts behind texts

@@ -6,8 +6,8 @@ use Rattle.route_ways.specs.Way.{Counts, Searches, budget_of, copies_by, is_coun
 use Rattle.route_ways.specs.declared.plain.TheConstants.{BUDGET_LIMIT}
 use Rattle.router_words.specs.Job.{MembersAsked, members_said}
 use Rattle.router_words.specs.declared.job.Members.{Members}
-use Rattle.router_top.specs.Method.{IsCrowdFor}
-use Rattle.router_top.specs.Subject.{RoutingProblem, SearchAsked}
+use Rattle.run_clauses.specs.Method.{IsCrowdFor}
+use Rattle.run_outcome.specs.Subject.{RoutingProblem, SearchAsked}
 use Rattle.router_top.specs.Ways.{plain_by, way_by}
 
 -- as many searches as may take turns, by a seed of theirs, if any do

@@ -14,13 +14,13 @@ use Rattle.router_words.specs.Job.{JobAsked, LeastAsked, Routes, Sweeps, Decodes
 use Rattle.router_words.specs.Word.{Word}
 use Rattle.router_top.specs.Comes.{lower_files}
 use Rattle.router_top.specs.JobFiles.{AreFilesOf, AreFound, AreSearched, IsNamed}
-use Rattle.router_top.specs.Raised.{least_names, narrowed_files, reason_files}
-use Rattle.router_top.specs.Written.{JobFile}
+use Rattle.run_placed.specs.Raised.{least_names, narrowed_files, reason_files}
+use Rattle.run_outcome.specs.Written.{JobFile}
 use Rattle.router_top.specs.Search.{Search, lower_widths, proof_files, search_asked}
-use Rattle.router_top.specs.SlotNames.{name_written}
-use Rattle.router_top.specs.Work.{clauses_name}
-use Rattle.router_top.specs.declared.slot.Slot.{Slot}
-use Rattle.router_top.specs.declared.slot.Slot.TheVariants.{File, Architecture, Netlist, Placement, GlobalRoute}
+use Rattle.run_outcome.specs.SlotNames.{name_written}
+use Rattle.run_clauses.specs.Encode.{clauses_name}
+use Rattle.run_outcome.specs.declared.slot.Slot.{Slot}
+use Rattle.run_outcome.specs.declared.slot.Slot.TheVariants.{File, Architecture, Netlist, Placement, GlobalRoute}
 
 -- a search has the names that its job gives
 record HasNames (job : JobAsked) (search : Search) : Type 0 where

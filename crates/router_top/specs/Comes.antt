@@ -6,10 +6,10 @@ use Rattle.route_ways.specs.Way.{copies_by, opens_by, refutes_by}
 use Rattle.sat_rat.specs.FullJudge.{FullAccepts}
 use Rattle.sat_text.specs.CnfText.{ReadsCnf}
 use Rattle.sat_text.specs.Printed.{cnf_text}
-use Rattle.router_top.specs.Method.{IsRoutingBy, CoversStrict, HasNone}
+use Rattle.run_clauses.specs.Method.{IsRoutingBy, CoversStrict, HasNone}
 use Rattle.router_top.specs.Search.{Search, HasCrowd, clauses_at, files_of, lower_widths, search_asked, proof_files}
-use Rattle.router_top.specs.Written.{JobFile}
-use Rattle.router_top.specs.Subject.{Bytes, FileMap, Poses, RoutingProblem, Step, job_of, JobAsked, Word}
+use Rattle.run_outcome.specs.Written.{JobFile}
+use Rattle.run_outcome.specs.Subject.{Bytes, FileMap, Poses, RoutingProblem, Step, job_of, JobAsked, Word}
 
 -- the log refutes the clauses at this width in the way of the search, and this is said of it before
 -- the report; no values satisfy them, and no route is a routing

@@ -6,11 +6,15 @@ use Rattle.fpga_types.specs.declared.limits.TheConstants.{WIDTH_LIMIT}
 use Rattle.route_sweep.specs.declared.found.Found.{Found}
 use Rattle.route_sweep.specs.declared.found.Found.TheVariants.{Refuted}
 use Rattle.route_sweep.specs.declared.found.Stop.{Stop}
-use Rattle.router_top.specs.Method.{IsCrowdFor}
-use Rattle.router_top.specs.Report.{found_outcome}
+use Rattle.run_clauses.specs.Method.{IsCrowdFor}
+use Rattle.run_outcome.specs.Report.{found_outcome}
 use Rattle.router_top.specs.Search.{core_search}
 use Rattle.router_top.specs.Work.{Finds}
-use Rattle.router_top.specs.Subject.{Bytes, FailsToSay, ShelfState, after_say, RoutingProblem, CoreAsked, Outcome, Unroutable, WriteFault, Said}
+use Rattle.run_outcome.specs.Subject.{Bytes, FailsToSay, ShelfState, after_say, RoutingProblem, CoreAsked}
+use Rattle.run_outcome.specs.declared.outcome.Outcome.{Outcome}
+use Rattle.run_outcome.specs.declared.outcome.Outcome.TheVariants.{Unroutable, WriteFault}
+use Rattle.run_outcome.specs.declared.slot.Slot.TheVariants.{Said}
+use Rattle.run_clauses.specs.Suited.{LeavesSuited, LeavesPrepared}
 
 -- the lead was said, and the width is unroutable; or a front part of it was, and the run has failed
 -- to write
@@ -39,3 +43,8 @@ pub record LeavesCore
   pub wrote : ShelfState
   pub finds : Finds (core_search job crowd) p job.width before wrote came
   pub says : SaysBlamed job.width wrote now came outcome
+
+-- what `core` leaves of its problem
+abbrev pub CoreLeaves : CoreAsked → RoutingProblem → (before now : ShelfState) → Outcome → Type 0
+CoreLeaves job = LeavesSuited job.method job.width job.width
+    (LeavesPrepared job.method false (LeavesCore job))

@@ -13,10 +13,10 @@ use Rattle.sat_clause.specs.Learned.{added_count}
 use Rattle.sat_text.specs.CnfText.{ReadsCnf}
 use Rattle.sat_text.specs.Printed.{cnf_text}
 use Rattle.router_top.specs.Comes.{ComesTo, IsRefutedAt, lower_files, LeavesOpen}
-use Rattle.router_top.specs.Method.{IsRoutingBy}
+use Rattle.run_clauses.specs.Method.{IsRoutingBy}
 use Rattle.router_top.specs.Search.{clauses_at, proof_files, route_file}
-use Rattle.router_top.specs.Written.{AreWritten}
-use Rattle.router_top.specs.Subject.{FileMap, RouteText, HasFew, Step, Word}
+use Rattle.run_outcome.specs.Written.{AreWritten}
+use Rattle.run_outcome.specs.Subject.{FileMap, RouteText, HasFew, Step, Word}
 
 -- at this width a routing was found. Beside the files of lower widths one alone was written: the
 -- global route with the tracks of a legal routing, as it reads back

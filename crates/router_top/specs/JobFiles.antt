@@ -6,22 +6,26 @@ use Rattle.desk_io.specs.Changes.{OnlyChanges, held}
 use Rattle.desk_io.specs.Reading.{IsWhole}
 use Rattle.fpga_types.specs.Problem.{PlacedNetlist}
 use Rattle.router_top.specs.Comes.{ComesTo, lower_files, EndsSearch}
-use Rattle.router_top.specs.Decode.{decoded_file}
-use Rattle.router_top.specs.Generated.{HasRoom, generated_files}
-use Rattle.router_top.specs.Global.{HasFiles, IsFoundRoute, found_file}
+use Rattle.run_clauses.specs.Decode.{decoded_file}
+use Rattle.run_made.specs.Generated.{HasRoom, generated_files}
+use Rattle.run_placed.specs.Global.{HasFiles, IsFoundRoute, found_file}
 use Rattle.route_bound.specs.declared.cut.Cut.{Cut}
-use Rattle.router_top.specs.Least.{IsCutOfLeast, IsFoundFrom}
-use Rattle.router_top.specs.Method.{IsRoutingBy, clauses_by, IsCrowdFor}
-use Rattle.router_top.specs.Raised.{least_names, narrowed_files}
+use Rattle.run_placed.specs.Least.{IsCutOfLeast, IsFoundFrom}
+use Rattle.run_clauses.specs.Method.{IsRoutingBy, clauses_by, IsCrowdFor}
+use Rattle.run_placed.specs.Raised.{least_names, narrowed_files}
 use Rattle.router_top.specs.Search.{Search, proof_files, route_file, clauses_at}
-use Rattle.router_top.specs.declared.narrowing.FoundAt.{FoundAt}
-use Rattle.router_top.specs.declared.raising.Raised.{Raised}
-use Rattle.router_top.specs.SizeCauses.{size_code}
-use Rattle.router_top.specs.SlotNames.{name_written}
-use Rattle.router_top.specs.declared.size_cause.SizeCause.TheVariants.{ClausesOfTurns, FormulaClauses}
-use Rattle.router_top.specs.Work.{clauses_file}
-use Rattle.router_top.specs.Written.{AreWritten, JobFile, with_file}
-use Rattle.router_top.specs.Subject.{FileMap, Poses, RoutingProblem, RouteText, HasFew, Step, job_of, DecodeAsked, Decodes, EncodeAsked, Encodes, GenAsked, Generates, GlobalAsked, Negotiates, JobAsked, SweepAsked, Sweeps, TrialAsked, Tries, Word, Outcome, InputFault, Limit, NotSymmetric, Unfound, NoWay, NotModel, Beyond, Usage, ReadFault, WriteFault, Slot, Said}
+use Rattle.run_placed.specs.declared.narrowing.FoundAt.{FoundAt}
+use Rattle.run_placed.specs.declared.raising.Raised.{Raised}
+use Rattle.run_outcome.specs.SizeCauses.{size_code}
+use Rattle.run_outcome.specs.SlotNames.{name_written}
+use Rattle.run_outcome.specs.declared.size_cause.SizeCause.TheVariants.{ClausesOfTurns, FormulaClauses}
+use Rattle.run_clauses.specs.Encode.{clauses_file}
+use Rattle.run_outcome.specs.Written.{AreWritten, JobFile, with_file}
+use Rattle.run_outcome.specs.Subject.{FileMap, Poses, RoutingProblem, RouteText, HasFew, Step, job_of, DecodeAsked, Decodes, EncodeAsked, Encodes, GenAsked, Generates, GlobalAsked, Negotiates, JobAsked, SweepAsked, Sweeps, TrialAsked, Tries, Word}
+use Rattle.run_outcome.specs.declared.outcome.Outcome.{Outcome}
+use Rattle.run_outcome.specs.declared.outcome.Outcome.TheVariants.{InputFault, Limit, NotSymmetric, Unfound, NoWay, NotModel, Beyond, Usage, ReadFault, WriteFault}
+use Rattle.run_outcome.specs.declared.slot.Slot.{Slot}
+use Rattle.run_outcome.specs.declared.slot.Slot.TheVariants.{Said}
 
 -- ---- the files of each job
 

@@ -11,18 +11,20 @@ use Rattle.sat_clause.specs.Formula.{IsUnsat}
 use Rattle.sat_rat.specs.FullJudge.{FullAccepts}
 use Rattle.sat_text.specs.CnfText.{ReadsCnf, cnf_said}
 use Rattle.sat_text.specs.LratText.{lrat_said}
-use Rattle.router_top.specs.Bound.{IsBounded}
-use Rattle.router_top.specs.Check.{cnf_source, lrat_source}
-use Rattle.router_top.specs.Decode.{IsDecoded, IsNoModel}
-use Rattle.router_top.specs.Generated.{HasRoom, generated_files}
-use Rattle.router_top.specs.Global.{IsNegotiated, IsUnfound, IsWithoutWay}
+use Rattle.run_placed.specs.Bound.{IsBounded}
+use Rattle.run_checks.specs.Check.{cnf_source, lrat_source}
+use Rattle.run_clauses.specs.Decode.{IsDecoded, IsNoModel}
+use Rattle.run_made.specs.Generated.{HasRoom, generated_files}
+use Rattle.run_placed.specs.Global.{IsNegotiated, IsUnfound, IsWithoutWay}
 use Rattle.router_top.specs.Headline.{IsLeftOpen, IsRefuted, IsRouted}
-use Rattle.router_top.specs.Least.{IsBeyond, IsNarrowed, IsUnnarrowed}
-use Rattle.router_top.specs.Method.{clauses_by, IsCrowdFor}
-use Rattle.router_top.specs.Placed.{SaysIfLegal}
-use Rattle.router_top.specs.Work.{clauses_file}
-use Rattle.router_top.specs.Written.{AreWritten}
-use Rattle.router_top.specs.Subject.{FileMap, Poses, Says, route_source, RoutingProblem, RouteText, HasFew, Cnf, Step, job_of, CheckAsked, Checks, EncodeAsked, Encodes, GenAsked, Generates, JudgeAsked, Judges, VerifyAsked, Verifies, Word, Outcome, Accepted, Bound, Done, LegalRoute, NotLegal, NotModel, Routed, Undecided, Unroutable, Unfound, NoWay, Narrowed, Beyond}
+use Rattle.run_placed.specs.Least.{IsBeyond, IsNarrowed, IsUnnarrowed}
+use Rattle.run_clauses.specs.Method.{clauses_by, IsCrowdFor}
+use Rattle.run_checks.specs.Placed.{SaysIfLegal}
+use Rattle.run_clauses.specs.Encode.{clauses_file}
+use Rattle.run_outcome.specs.Written.{AreWritten}
+use Rattle.run_outcome.specs.Subject.{FileMap, Poses, Says, route_source, RoutingProblem, RouteText, HasFew, Cnf, Step, job_of, CheckAsked, Checks, EncodeAsked, Encodes, GenAsked, Generates, JudgeAsked, Judges, VerifyAsked, Verifies, Word}
+use Rattle.run_outcome.specs.declared.outcome.Outcome.{Outcome}
+use Rattle.run_outcome.specs.declared.outcome.Outcome.TheVariants.{Accepted, Bound, Done, LegalRoute, NotLegal, NotModel, Routed, Undecided, Unroutable, Unfound, NoWay, Narrowed, Beyond}
 
 -- the words ask for the clauses, and one file alone was written: those of the problem, by a crowd
 -- of it if they go by one

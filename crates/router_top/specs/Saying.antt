@@ -2,16 +2,19 @@
 use Rattle.std.specs.Prelude.{◌≡◌, ◌⊎◌, ℕ, ◌≤◌, ◌++◌, List, [], ◌∷◌, length, take, true, Ok, Option, option_map}
 use Rattle.route_core.specs.Blamed.{blamed}
 use Rattle.route_ways.specs.Trimming.{net_lines}
-use Rattle.router_top.specs.Bound.{IsBounded, cut_lines}
-use Rattle.router_top.specs.Causes.{AreCausesOf, IsIllegal, cause_lines}
-use Rattle.router_top.specs.Generated.{Makes, PosesNone}
-use Rattle.router_top.specs.Global.{IsNoWay, IsWaylessLine}
+use Rattle.run_placed.specs.Bound.{IsBounded, cut_lines}
+use Rattle.run_checks.specs.Causes.{AreCausesOf, IsIllegal, cause_lines}
+use Rattle.run_made.specs.Generated.{Makes, PosesNone}
+use Rattle.run_placed.specs.Global.{IsNoWay, IsWaylessLine}
 use Rattle.router_top.specs.Headline.{IsRefuted}
-use Rattle.router_top.specs.Least.{AreLeastLines, IsNarrowing}
-use Rattle.router_top.specs.Report.{line_of}
+use Rattle.run_placed.specs.Least.{AreLeastLines, IsNarrowing}
+use Rattle.run_outcome.specs.Report.{line_of}
 use Rattle.router_top.specs.Search.{clauses_at}
 use Rattle.router_top.specs.Work.{trial_line}
-use Rattle.router_top.specs.Subject.{Bytes, FileMap, ShelfState, RoutingProblem, job_of, Blames, BoundAsked, Bounds, CoreAsked, GlobalAsked, LeastAsked, Narrows, Negotiates, TrialAsked, Tries, VerifyAsked, Verifies, Word, Outcome, Bound, NotLegal, Unroutable, WriteFault, Said}
+use Rattle.run_outcome.specs.Subject.{Bytes, FileMap, ShelfState, RoutingProblem, job_of, Blames, BoundAsked, Bounds, CoreAsked, GlobalAsked, LeastAsked, Narrows, Negotiates, TrialAsked, Tries, VerifyAsked, Verifies, Word}
+use Rattle.run_outcome.specs.declared.outcome.Outcome.{Outcome}
+use Rattle.run_outcome.specs.declared.outcome.Outcome.TheVariants.{Bound, NotLegal, Unroutable, WriteFault}
+use Rattle.run_outcome.specs.declared.slot.Slot.TheVariants.{Said}
 
 -- the bytes said, and a text behind them
 abbrev pub more_said : Option Bytes → Bytes → Option Bytes

@@ -10,11 +10,12 @@ use Rattle.route_sweep.specs.Names.{cnf_name, lrat_name, route_name}
 use Rattle.route_sweep.specs.declared.found.FileSlot.TheVariants.{Route, Clauses, Log}
 use Rattle.route_ways.specs.Way.{Course, copies_by, is_counting}
 use Rattle.sat_text.specs.Printed.{cnf_text, log_text}
-use Rattle.router_top.specs.Generated.{generated_files}
-use Rattle.router_top.specs.Method.{IsCrowdFor, clauses_by}
-use Rattle.router_top.specs.Written.{JobFile, with_files, job_file}
+use Rattle.run_made.specs.Generated.{generated_files}
+use Rattle.run_clauses.specs.Method.{IsCrowdFor, clauses_by}
+use Rattle.run_outcome.specs.Written.{JobFile, with_files, job_file}
 use Rattle.router_top.specs.Ways.{core_way, way_by}
-use Rattle.router_top.specs.Subject.{FileMap, FileNames, RoutingProblem, RouteText, Cnf, Step, Blames, CoreAsked, JobAsked, RouteAsked, Routes, SweepAsked, Sweeps, TrialAsked, Tries, Method, Strictly, File}
+use Rattle.run_outcome.specs.Subject.{FileMap, FileNames, RoutingProblem, RouteText, Cnf, Step, Blames, CoreAsked, JobAsked, RouteAsked, Routes, SweepAsked, Sweeps, TrialAsked, Tries, Method}
+use Rattle.run_outcome.specs.declared.slot.Slot.TheVariants.{File}
 
 -- a search of the problem of these files at the widths from the first on, one after the other,
 -- until one is not refuted or the last one was; how routings are said by clauses, and in the order

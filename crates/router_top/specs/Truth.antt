@@ -1,28 +1,31 @@
 -- What each outcome but those of faults says of the words and of the files.
-use Rattle.std.specs.Prelude.{◌≡◌, ◌⊎◌, ℕ, ◌<◌, ◌≤◌, Bool, List, false, length, MatchResult, Option, None, Some}
+use Rattle.std.specs.Prelude.{◌≡◌, ◌⊎◌, ℕ, ◌<◌, ◌≤◌, List, false, length, MatchResult, Option, None, Some}
 use Rattle.std.specs.Option.{ForSome}
 use Rattle.desk_io.specs.Files.{HasRisen}
 use Rattle.route_sweep.specs.Found.{IsHeld}
 use Rattle.route_ways.specs.Way.{MayEndAfter, copies_by}
 use Rattle.sat_clause.specs.declared.limits.TheConstants.{CLAUSE_LIMIT}
-use Rattle.fpga_types.specs.Problem.{PlacedNetlist}
 use Rattle.router_words.specs.Refusal.{code_of}
-use Rattle.router_top.specs.SizeCauses.{size_code}
-use Rattle.router_top.specs.declared.size_cause.SizeCause.TheVariants.{FormulaClauses, ClausesOfTurns}
-use Rattle.router_top.specs.Bound.{IsTrueOfCut}
-use Rattle.router_top.specs.Check.{ChecksTo, VerifiesTo}
-use Rattle.router_top.specs.Decode.{IsTrueOfModel}
-use Rattle.router_top.specs.Generated.{HasRoom, IsTooLarge, IsTooMany, Makes}
-use Rattle.router_top.specs.Global.{HasFiles, IsTrueOfSought, LacksFiles}
-use Rattle.router_top.specs.Least.{IsTrueOfLeast, last_asked}
-use Rattle.router_top.specs.Method.{HasNone, HasOne, clauses_by, IsCrowdFor}
-use Rattle.router_top.specs.Placed.{IsJudgement, JudgesPlaced, WorksOnPlaced}
-use Rattle.router_top.specs.Report.{GivesNone}
+use Rattle.run_outcome.specs.SizeCauses.{size_code}
+use Rattle.run_outcome.specs.declared.size_cause.SizeCause.TheVariants.{FormulaClauses, ClausesOfTurns}
+use Rattle.run_placed.specs.Bound.{IsTrueOfCut}
+use Rattle.run_checks.specs.Check.{ChecksTo, VerifiesTo}
+use Rattle.run_clauses.specs.Decode.{IsTrueOfModel}
+use Rattle.run_made.specs.Generated.{HasRoom, IsTooLarge, IsTooMany, Makes}
+use Rattle.run_clauses.specs.Method.{HasNone, HasOne, clauses_by, IsCrowdFor}
+use Rattle.run_checks.specs.Placed.{IsJudgement, JudgesPlaced}
+use Rattle.run_outcome.specs.Scene.{WorksOnPlaced}
+use Rattle.run_outcome.specs.Report.{GivesNone}
 use Rattle.router_top.specs.Search.{Search, HasCrowd, clauses_at, clauses_held, core_search, route_search, sweep_of, sweep_search}
-use Rattle.router_top.specs.Stopped.{are_timed}
-use Rattle.router_top.specs.Suited.{IsTrueOfSuited}
-use Rattle.router_top.specs.Subject.{DeskState, FileMap, ShelfState, FileNames, Poses, IsHalted, RoutingProblem, job_of, Blames, Bounds, Checks, DecodeAsked, Decodes, EncodeAsked, Encodes, Generates, JobAsked, Judges, LeastAsked, Narrows, Negotiates, Routes, Sweeps, Tries, Verifies, Word, Outcome, Routed, Unroutable, Undecided, Bound, Done, Limit, Usage, OutOfMemory, GlobalAsked, Unfound, Narrowed, Beyond}
-use Rattle.router_top.specs.declared.size_cause.SizeCause.{SizeCause}
+use Rattle.run_outcome.specs.Stopped.{are_timed}
+use Rattle.run_clauses.specs.Suited.{IsTrueOfSuited}
+use Rattle.run_outcome.specs.Subject.{DeskState, FileMap, ShelfState, FileNames, Poses, IsHalted, RoutingProblem, job_of, Blames, Bounds, Checks, DecodeAsked, Decodes, EncodeAsked, Encodes, Generates, JobAsked, Judges, Narrows, Negotiates, Routes, Sweeps, Tries, Verifies, Word}
+use Rattle.run_outcome.specs.declared.outcome.Outcome.{Outcome}
+use Rattle.run_outcome.specs.declared.outcome.Outcome.TheVariants.{Routed, Unroutable, Undecided, Done, Limit, Usage, OutOfMemory}
+use Rattle.run_outcome.specs.declared.size_cause.SizeCause.{SizeCause}
+use Rattle.run_outcome.specs.Agrees.{Agrees}
+use Rattle.run_placed.specs.Global.{IsTrueOfGlobal}
+use Rattle.run_placed.specs.Least.{IsTrueOfNarrows}
 
 -- so many clauses are more than may be built, as this cause says, and the outcome has their number;
 -- or they are not, and this is true
@@ -99,20 +102,6 @@ IsTrueOfWork names says files outcome =
     GivesNone (IsHalted files) files names outcome
     ⊎ ((p : RoutingProblem) × Poses files names p × says p outcome)
 
--- a file of the job gives nothing, and the outcome says why; or they pose a placed netlist, of
--- which the outcome is true
-abbrev pub IsTrueOfGlobal : GlobalAsked → Option FileMap → Outcome → Type 0
-IsTrueOfGlobal job files outcome =
-    LacksFiles (IsHalted files) files job outcome
-    ⊎ ((placed : PlacedNetlist) × HasFiles files job placed × IsTrueOfSought job placed outcome)
-
--- so of what the placed netlist needs
-abbrev pub IsTrueOfNarrows : LeastAsked → Option FileMap → Outcome → Type 0
-IsTrueOfNarrows job files outcome =
-    LacksFiles (IsHalted files) files (last_asked job) outcome
-    ⊎ ((placed : PlacedNetlist) × HasFiles files (last_asked job) placed
-    × IsTrueOfLeast job placed outcome)
-
 -- what an outcome says of the files of each job, where this crowd is gone by
 abbrev pub IsTrueOfJob : (crowd : List ℕ) → JobAsked → Option FileMap → Outcome → Type 0
 IsTrueOfJob crowd (Routes job) files outcome =
@@ -149,46 +138,6 @@ IsTrueBy crowd words files outcome =
 -- so by some crowd
 abbrev pub IsTrueOf : List Word → Option FileMap → Outcome → Type 0
 IsTrueOf words files outcome = (crowd : List ℕ) × IsTrueBy crowd words files outcome
-
--- a search is left open, at a width that is not above the one of the other outcome, after as many
--- learned clauses as another one, unless they have a limit of time; of rounds, after how many is
--- the search's own
-abbrev pub IsOpenBelow : (timed : Bool) → Outcome → Outcome → Type 0
-IsOpenBelow timed (Undecided width learned) (Routed of) = width ≤ of
-IsOpenBelow timed (Undecided width learned) (Unroutable of) = width ≤ of
-IsOpenBelow timed (Undecided width learned) (Undecided of others) =
-    (width ≤ of) × (timed ≡ false → learned ≡ others)
-IsOpenBelow timed (Undecided width learned) (Limit file code count) =
-    (code ≡ size_code FormulaClauses) ⊎ (code ≡ size_code ClausesOfTurns)
-IsOpenBelow timed (Unfound width rounds stopped) (Routed of) = width ≤ of
-IsOpenBelow timed (Unfound width rounds stopped) (Unfound of others other_stopped) = width ≡ of
-IsOpenBelow timed outcome other = ⊥
-
--- both are bounds
-abbrev pub AreBounds : Outcome → Outcome → Type 0
-AreBounds (Bound tracks cells nets) (Bound others other_cells other_nets) = Unit {0}
-AreBounds outcome other = ⊥
-
--- both tell of one placement: no width at which a route was found is below a bound, and none is
--- above the last that was tried, nor is that below a bound where it was left open
-abbrev pub AreOfOne : Outcome → Outcome → Type 0
-AreOfOne (Narrowed tracks width cut) (Narrowed others of other_cut) =
-    (tracks ≤ of) × (others ≤ width)
-AreOfOne (Narrowed tracks width cut) (Unfound last rounds stopped) = width ≤ last
-AreOfOne (Unfound last rounds stopped) (Narrowed tracks width cut) = width ≤ last
-AreOfOne (Unfound last rounds stopped) (Beyond tracks cells nets) = last < tracks
-AreOfOne (Beyond tracks cells nets) (Unfound last rounds stopped) = last < tracks
-AreOfOne (Beyond tracks cells nets) (Beyond others other_cells other_nets) = Unit {0}
-AreOfOne outcome other = ⊥
-
--- the answer is this outcome; or a search is left open by one of the two, for which width its
--- budget is spent is the search's own; or both are bounds, for which of the best cuts is found is
--- that search's own; or both tell of what one placement needs, for that and the routes that are
--- found are those searches' own
-abbrev pub Agrees : (timed : Bool) → Outcome → Outcome → Type 0
-Agrees timed answer outcome =
-    (answer ≡ outcome) ⊎ IsOpenBelow timed answer outcome ⊎ IsOpenBelow timed outcome answer
-    ⊎ AreBounds answer outcome ⊎ AreOfOne answer outcome
 
 -- if both are true by one crowd, they agree; where tracks are not kept in order, any crowd serves
 abbrev pub AgreeByCrowd : List Word → FileMap → (answer outcome : Outcome) → Type 0

@@ -6,7 +6,7 @@ use Rattle.route_ways.specs.declared.plain.Plain.{Plain}
 use Rattle.route_ways.specs.declared.plain.Solver.TheVariants.{Merging, Turns}
 use Rattle.route_ways.specs.declared.wires.Wires.{Wires}
 use Rattle.route_ways.specs.declared.wires.Wires.TheVariants.{One, Several}
-use Rattle.router_top.specs.Subject.{CoreAsked, Method, Ordered, Pinned, SearchAsked, Strictly, Within}
+use Rattle.run_outcome.specs.Subject.{CoreAsked, Method, Ordered, Pinned, SearchAsked, Strictly, Within}
 
 -- a net may have several wires in a cell within a reach
 abbrev pub wires_by : Method → Wires

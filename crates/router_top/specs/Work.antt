@@ -1,28 +1,25 @@
 -- What the work on a problem leaves on the shelf, by its outcome; last of a trial, which is a sweep
 -- that says first how large its generated problem is.
-use Rattle.std.specs.Prelude.{◌≡◌, ◌⊎◌, ℕ, ◌++◌, ◌≤◌, List, false, true, codes, Option, Result, Ok, Err, decimal, length}
-use Rattle.desk_io.specs.WholeFile.{FailsToWrite, after_writing}
-use Rattle.fpga_route.specs.ReadBack.{IsPrintable}
+use Rattle.std.specs.Prelude.{◌≡◌, ◌⊎◌, ℕ, ◌++◌, ◌≤◌, List, true, codes, Option, Result, decimal, length}
 use Rattle.fpga_types.specs.Given.{IsGiven}
 use Rattle.fpga_types.specs.Slots.{pairs, slots, steps}
 use Rattle.fpga_types.specs.declared.limits.TheConstants.{WIDTH_LIMIT}
 use Rattle.route_sweep.specs.Climb.{ClimbsTo}
-use Rattle.route_sweep.specs.Found.{FindsBy, IsUnbuilt}
+use Rattle.route_sweep.specs.Found.{FindsBy}
 use Rattle.route_sweep.specs.declared.found.Climbed.{Climbed}
-use Rattle.route_sweep.specs.declared.found.FileSlot.TheVariants.{Clauses}
 use Rattle.route_sweep.specs.declared.found.Found.{Found}
 use Rattle.route_sweep.specs.declared.found.Stop.{Stop}
-use Rattle.route_sweep.specs.declared.found.Stop.TheVariants.{Fault}
 use Rattle.route_ways.specs.Way.{copies_by, opens_by, refutes_by}
 use Rattle.router_words.specs.Job.{MembersAsked}
-use Rattle.sat_text.specs.CnfText.{ReadsCnf}
-use Rattle.router_top.specs.Method.{IsCrowdFor, IsRoutingBy, clauses_by}
-use Rattle.router_top.specs.Report.{climbed_outcome, found_outcome, written_outcome}
+use Rattle.run_clauses.specs.Method.{IsCrowdFor, IsRoutingBy, clauses_by}
+use Rattle.run_outcome.specs.Report.{climbed_outcome, found_outcome}
 use Rattle.router_top.specs.Search.{Search, route_search, sweep_of, clauses_at}
-use Rattle.router_top.specs.VariableNames.{named_text}
 use Rattle.router_top.specs.Ways.{way_by}
-use Rattle.router_top.specs.Written.{JobFile, job_file}
-use Rattle.router_top.specs.Subject.{Bytes, ShelfState, FailsToSay, after_say, RoutingProblem, HasFew, Cnf, EncodeAsked, RouteAsked, SearchAsked, SweepAsked, TrialAsked, Outcome, WriteFault, File, Said}
+use Rattle.run_outcome.specs.Subject.{Bytes, ShelfState, FailsToSay, after_say, RoutingProblem, RouteAsked, SearchAsked, SweepAsked, TrialAsked}
+use Rattle.run_outcome.specs.declared.outcome.Outcome.{Outcome}
+use Rattle.run_outcome.specs.declared.outcome.Outcome.TheVariants.{WriteFault}
+use Rattle.run_outcome.specs.declared.slot.Slot.TheVariants.{Said}
+use Rattle.run_clauses.specs.Suited.{LeavesSuited, LeavesPrepared}
 
 -- what a search finds at a width of its problem, and what is written of it
 abbrev pub Finds : Search → RoutingProblem → (width : ℕ) → (before now : ShelfState)
@@ -73,42 +70,6 @@ pub record Climbs
 abbrev pub Sweeps : SweepAsked → RoutingProblem → (before now : ShelfState) → Outcome → Type 0
 Sweeps job p before now outcome = Climbs job.search job.members p before now outcome
 
--- the name of the file that clauses are written to
-abbrev pub clauses_name : EncodeAsked → Bytes
-clauses_name job = job.prefix ++ codes ".cnf"
-
--- the text of clauses of the problem: first the names of their variables, if these are asked for
-abbrev pub clauses_text : EncodeAsked → RoutingProblem → Cnf → Bytes
-clauses_text job p formula = named_text job.names job.width p.route formula
-
--- the file of the clauses of the problem, by this crowd
-abbrev pub clauses_file : EncodeAsked → (crowd : List ℕ) → RoutingProblem → JobFile
-clauses_file job crowd p = job_file (File (Clauses job.width)) (clauses_name job)
-    (clauses_text job p (clauses_by job.method crowd job.width p))
-
--- the clauses of the problem were written, and read back if its route can be printed; or they were
--- not written whole; or nothing was written, since there are too many or memory is short
-abbrev pub WritesClauses : {Written : Type 0} → EncodeAsked → RoutingProblem → Cnf
-    → (before now : ShelfState) → Result Written Stop → Type 0
-WritesClauses job p formula before now (Ok written) =
-    HasFew formula × (IsPrintable p.route → ReadsCnf (clauses_text job p formula) formula)
-    × (now ≡ after_writing before (clauses_name job) (clauses_text job p formula))
-WritesClauses job p formula before now (Err (Fault slot)) =
-    (slot ≡ Clauses job.width) × HasFew formula
-    × FailsToWrite before (clauses_name job) (clauses_text job p formula) now
-WritesClauses job p formula before now (Err stop) = IsUnbuilt 1 formula stop × (now ≡ before)
-
--- the writing of the clauses of the problem, by a crowd of it if they go by one, at the width of
--- the job
-pub record Encodes
-    (job : EncodeAsked) (p : RoutingProblem) (before now : ShelfState) (outcome : Outcome)
-    : Type 0 where
-  pub crowd : List ℕ
-  pub known : IsCrowdFor job.method false crowd p
-  pub came : Result (Unit {0}) Stop
-  pub writes : WritesClauses job p (clauses_by job.method crowd job.width p) before now came
-  pub is : outcome ≡ written_outcome came
-
 -- the trial line with its newline: how many slots and steps the problem has, and how many pairs of
 -- slots of different nets take one cell
 abbrev pub trial_line : RoutingProblem → Bytes
@@ -123,3 +84,14 @@ abbrev pub Tries : TrialAsked → RoutingProblem → (before now : ShelfState) �
 Tries job p before now outcome =
     Sweeps (sweep_of job) p (after_say before (trial_line p)) now outcome
     ⊎ (FailsToSay before (trial_line p) now × (outcome ≡ WriteFault Said))
+
+-- what `route` leaves of its problem
+abbrev pub RouteLeaves : RouteAsked → RoutingProblem → (before now : ShelfState) → Outcome → Type 0
+RouteLeaves job = LeavesSuited job.search.method job.search.width job.search.width
+    (LeavesPrepared job.search.method job.search.count (LeavesRoute job))
+
+-- what `sweep` leaves of its problem; each width up to the greatest counts, also if it is not come
+-- to
+abbrev pub SweepLeaves : SweepAsked → RoutingProblem → (before now : ShelfState) → Outcome → Type 0
+SweepLeaves job = LeavesSuited job.search.method 1 job.search.width
+    (LeavesPrepared job.search.method job.search.count (Sweeps job))

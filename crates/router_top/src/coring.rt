@@ -3,22 +3,18 @@
 ghost use Rattle.std.specs.Prelude.{false};
 ghost use Rattle.router_words.specs.Job.{core_said};
 ghost use Rattle.router_top.specs.Core.{LeavesCore, SaysBlamed};
-ghost use Rattle.router_top.specs.Known.{IsKnown};
-ghost use Rattle.router_top.specs.Stopped.{EndsEarly};
+ghost use Rattle.run_clauses.specs.Known.{IsKnown};
+ghost use Rattle.run_outcome.specs.Stopped.{EndsEarly};
 
-use crate::chosen::Chosen;
-use crate::clock::{Clock, set_limit};
-use crate::known::known_of;
-use crate::outcome::Outcome;
-use crate::problem_work::{ProblemWork, does_fit, was_given};
-use crate::slot::Slot;
-use crate::stopping::stop_outcome;
+use crate::problem_work::ProblemWork;
 use crate::ways::core_way;
 use desk_io::Shelf;
 use fpga_bounds::PlacedProblem;
 use problem_facts::Facts;
 use route_sweep::{Ask, Found, Stop, one_width};
 use router_words::CoreJob;
+use run_clauses::{Chosen, known_of};
+use run_outcome::{Clock, Outcome, Slot, does_fit, set_limit, stop_outcome, was_given};
 use std::alloc::Global;
 
 // Says behind the files what there is to say of a refutation: the nets to blame.
@@ -74,7 +70,7 @@ impl<'a> ProblemWork for CoreJob<'a> {
     ghost use Rattle.std.specs.Prelude.{false};
     ghost use Rattle.router_words.specs.Job.{core_said};
     ghost use Rattle.router_top.specs.Core.{LeavesCore};
-    ghost use Rattle.router_top.specs.Suited.{LeavesPrepared};
+    ghost use Rattle.run_clauses.specs.Suited.{LeavesPrepared};
 
     ghost leaves = { λ job. LeavesPrepared job.method false (LeavesCore (core_said job)) };
 

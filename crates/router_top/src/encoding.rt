@@ -1,97 +1,17 @@
-//! The command `encode`: the clauses of a problem.
-ghost use Rattle.std.specs.Prelude.{◌≡◌, IfErr, IfOk, OnOk, false};
-ghost use Rattle.route_sweep.specs.Found.{IsHeld, IsUnbuilt};
-ghost use Rattle.router_words.specs.Job.{encode_said};
-ghost use Rattle.router_top.specs.Known.{IsKnown, crowd_of};
-ghost use Rattle.router_top.specs.Method.{clauses_by};
-ghost use Rattle.router_top.specs.Report.{written_outcome};
-ghost use Rattle.router_top.specs.Work.{WritesClauses};
-
-use crate::chosen::Chosen;
-use crate::clock::Clock;
-use crate::file_name::file_name;
-use crate::known::known_of;
-use crate::outcome::Outcome;
+//! The work of `encode` on a problem.
 use crate::problem_work::ProblemWork;
-use crate::stopping::stop_outcome;
-use crate::variable_names::{NamedClauses, NamedText};
-use desk_io::{Shelf, write_file};
+use desk_io::Shelf;
 use fpga_bounds::PlacedProblem;
-use problem_facts::Facts;
-use route_sweep::{FileSlot, Stop, few_clauses};
 use router_words::EncodeJob;
-use sat_clause::Formula;
+use run_clauses::encode_problem;
+use run_outcome::{Clock, Outcome};
 use std::alloc::Global;
 
-// The clauses that the job asks for, of which there are at most 40,000,000.
-fn asked_clauses(
-    alloc: Global,
-    job: &EncodeJob<'_>,
-    known: &Option<Facts>,
-    problem: &PlacedProblem,
-) -> Result<Formula, Stop>
-    requires { IsKnown job.now.method false problem.now known.now }
-    ensures formula { IfOk result (λ formula. formula.cnf
-        ≡ clauses_by job.now.method (crowd_of known.now) job.now.width problem.now) }
-    ensures held { OnOk result
-        (IsHeld 1 (clauses_by job.now.method (crowd_of known.now) job.now.width problem.now)) }
-    ensures stop { IfErr result
-        (IsUnbuilt 1 (clauses_by job.now.method (crowd_of known.now) job.now.width problem.now)) }
-{
-    let encoder = Chosen::of(job.method, known);
-    few_clauses(alloc, 1, &encoder, problem, job.width)
-}
-
-// Builds the clauses that the job asks for and writes them, where there are not too many.
-fn write_clauses<S: Shelf>(
-    alloc: Global,
-    job: &EncodeJob<'_>,
-    known: &Option<Facts>,
-    problem: &PlacedProblem,
-    shelf: &mut S,
-) -> Result<(), Stop>
-    requires { IsKnown job.now.method false problem.now known.now }
-    ensures { WritesClauses (encode_said job.now) problem.now
-        (clauses_by job.now.method (crowd_of known.now) job.now.width problem.now)
-        (S.state shelf.old) (S.state shelf.new) result }
-{
-    let formula = match asked_clauses(alloc, job, known, problem) {
-        Ok(formula) => formula,
-        Err(stop) => return Err(stop),
-    };
-    let Ok(name) = file_name(alloc, job.prefix, ".cnf") else {
-        return Err(Stop::Memory);
-    };
-    let clauses = NamedClauses {
-        problem,
-        width: job.width,
-        names: job.names,
-        formula: &formula,
-    };
-    let Ok(()) = write_file(&NamedText, shelf, name.as_str(), &clauses) else {
-        return Err(Stop::Fault {
-            slot: FileSlot::Clauses { width: job.width },
-        });
-    };
-    Ok(())
-}
-
-// What the run comes to by the writing.
-fn written_outcome(came: Result<(), Stop>) -> Outcome
-    ensures { result ≡ written_outcome came }
-{
-    match came {
-        Ok(()) => Outcome::Done,
-        Err(stop) => stop_outcome(stop),
-    }
-}
-
-// Builds the clauses and writes them.
 impl<'a> ProblemWork for EncodeJob<'a> {
     ghost use Rattle.std.specs.Prelude.{false};
     ghost use Rattle.router_words.specs.Job.{encode_said};
-    ghost use Rattle.router_top.specs.Suited.{LeavesPrepared};
-    ghost use Rattle.router_top.specs.Work.{Encodes};
+    ghost use Rattle.run_clauses.specs.Encode.{Encodes};
+    ghost use Rattle.run_clauses.specs.Suited.{LeavesPrepared};
 
     ghost leaves = { λ job. LeavesPrepared job.method false (Encodes (encode_said job)) };
 
@@ -104,9 +24,6 @@ impl<'a> ProblemWork for EncodeJob<'a> {
         shelf: &mut S,
         _clock: &mut C,
     ) -> Outcome {
-        let Ok(known) = known_of(alloc, self.method, false, problem) else {
-            return Outcome::OutOfMemory;
-        };
-        written_outcome(write_clauses(alloc, self, &known, problem, shelf))
+        encode_problem(alloc, self, problem, shelf)
     }
 }

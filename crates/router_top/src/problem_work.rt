@@ -1,21 +1,15 @@
 //! Work on the problem that four files pose.
 ghost use Rattle.std.specs.Prelude.{◌≡◌, IfSome, IsNone, None};
 ghost use Rattle.fpga_problem.specs.Files.{Poses, names_said};
-ghost use Rattle.fpga_types.specs.Fits.{Fits};
-ghost use Rattle.fpga_types.specs.Given.{IsGiven};
-ghost use Rattle.router_top.specs.Posed.{EndsWithoutProblem};
-ghost use Rattle.router_top.specs.Report.{IsReadFault};
-ghost use Rattle.router_top.specs.Run.{LeavesWork, scene};
-ghost use Rattle.router_top.specs.Stopped.{EndsEarly};
+ghost use Rattle.run_outcome.specs.Posed.{EndsWithoutProblem};
+ghost use Rattle.run_outcome.specs.Report.{IsReadFault};
+ghost use Rattle.run_outcome.specs.Scene.{LeavesWork, scene};
+ghost use Rattle.run_outcome.specs.Stopped.{EndsEarly};
 
-use crate::clock::Clock;
-use crate::outcome::Outcome;
-use crate::ran::Ran;
-use crate::stopping::unread_outcome;
-use crate::text_file::TextFile;
 use desk_io::{Desk, Shelf};
 use fpga_bounds::PlacedProblem;
 use fpga_problem::{FourNames, read_files};
+use run_outcome::{Clock, Outcome, Ran, TextFile, unread_outcome};
 use std::alloc::Global;
 
 /// What a command does with a problem.
@@ -23,7 +17,7 @@ pub trait ProblemWork {
     ghost use Rattle.std.specs.Prelude.{ℕ};
     ghost use Rattle.desk_io.specs.ShelfState.{ShelfState};
     ghost use Rattle.fpga_types.specs.Problem.{RoutingProblem};
-    ghost use Rattle.router_top.specs.declared.outcome.Outcome.{Outcome};
+    ghost use Rattle.run_outcome.specs.declared.outcome.Outcome.{Outcome};
 
     /// What the work on a problem leaves, by the shelf before and after it and what it comes to.
     ghost leaves: { Self → RoutingProblem → ShelfState → ShelfState → Outcome → Type 0 };
@@ -42,20 +36,6 @@ pub trait ProblemWork {
     ) -> Outcome
         ensures leaves { leaves self.now problem.now (S.state shelf.old) (S.state shelf.new) result }
         ensures stopped { EndsEarly (budget self.now) result → C.is_over clock.new };
-}
-
-/// Of a problem that was posed the four values were given as their readers give them. Does nothing.
-pub fn was_given(problem: &PlacedProblem)
-    ensures { IsGiven problem.now }
-{
-    let _route = problem.route();
-}
-
-/// A problem that was posed fits. Does nothing.
-pub fn does_fit(problem: &PlacedProblem)
-    ensures { Fits problem.now }
-{
-    let _route = problem.route();
 }
 
 /// Reads the four files and does the work on their problem, which is given back. Where they give

@@ -1,23 +1,20 @@
 //! The command `route`: a search for a legal routing.
 ghost use Rattle.std.specs.Prelude.{◌≡◌};
 ghost use Rattle.router_words.specs.Job.{route_said};
-ghost use Rattle.router_top.specs.Known.{IsKnown};
-ghost use Rattle.router_top.specs.Report.{found_outcome};
-ghost use Rattle.router_top.specs.Stopped.{EndsEarly};
+ghost use Rattle.run_clauses.specs.Known.{IsKnown};
+ghost use Rattle.run_outcome.specs.Report.{found_outcome};
+ghost use Rattle.run_outcome.specs.Stopped.{EndsEarly};
 ghost use Rattle.router_top.specs.Work.{LeavesRoute};
 
-use crate::chosen::Chosen;
-use crate::clock::{Clock, set_limit};
-use crate::known::known_of;
-use crate::outcome::Outcome;
-use crate::problem_work::{ProblemWork, was_given};
-use crate::stopping::stop_outcome;
+use crate::problem_work::ProblemWork;
 use crate::ways::way_by;
 use desk_io::Shelf;
 use fpga_bounds::PlacedProblem;
 use problem_facts::Facts;
 use route_sweep::{Ask, Found, Stop, one_width};
 use router_words::RouteJob;
+use run_clauses::{Chosen, known_of};
+use run_outcome::{Clock, Outcome, set_limit, stop_outcome, was_given};
 use std::alloc::Global;
 
 // What the run comes to by what was found at a width.
@@ -72,7 +69,7 @@ fn search_width<S: Shelf, C: Clock>(
 // Searches for a legal routing, and writes it; or else the clauses and the log of the search.
 impl<'a> ProblemWork for RouteJob<'a> {
     ghost use Rattle.router_words.specs.Job.{route_said};
-    ghost use Rattle.router_top.specs.Suited.{LeavesPrepared};
+    ghost use Rattle.run_clauses.specs.Suited.{LeavesPrepared};
     ghost use Rattle.router_top.specs.Work.{LeavesRoute};
 
     ghost leaves = { λ job. LeavesPrepared job.search.method job.search.count

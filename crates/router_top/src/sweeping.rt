@@ -1,23 +1,20 @@
 //! The command `sweep`: a search for the least width that has a legal routing.
 ghost use Rattle.std.specs.Prelude.{◌≡◌, option_map};
 ghost use Rattle.router_words.specs.Job.{members_said, search_said};
-ghost use Rattle.router_top.specs.Known.{IsKnown};
-ghost use Rattle.router_top.specs.Report.{climbed_outcome};
-ghost use Rattle.router_top.specs.Stopped.{EndsEarly};
+ghost use Rattle.run_clauses.specs.Known.{IsKnown};
+ghost use Rattle.run_outcome.specs.Report.{climbed_outcome};
+ghost use Rattle.run_outcome.specs.Stopped.{EndsEarly};
 ghost use Rattle.router_top.specs.Work.{Climbs};
 
-use crate::chosen::Chosen;
-use crate::clock::{Clock, set_limit};
-use crate::known::known_of;
-use crate::outcome::Outcome;
-use crate::problem_work::{ProblemWork, was_given};
-use crate::stopping::stop_outcome;
+use crate::problem_work::ProblemWork;
 use crate::ways::way_by;
 use desk_io::Shelf;
 use fpga_bounds::PlacedProblem;
 use problem_facts::Facts;
 use route_sweep::{Ask, Climbed, Stop, climb};
 use router_words::{Members, SearchJob, SweepJob};
+use run_clauses::{Chosen, known_of};
+use run_outcome::{Clock, Outcome, set_limit, stop_outcome, was_given};
 use std::alloc::Global;
 
 // What the run comes to by what the climb came to.
@@ -73,7 +70,7 @@ pub fn search_widths<S: Shelf, C: Clock>(
 // Searches at one width after another.
 impl<'a> ProblemWork for SweepJob<'a> {
     ghost use Rattle.router_words.specs.Job.{sweep_said};
-    ghost use Rattle.router_top.specs.Suited.{LeavesPrepared};
+    ghost use Rattle.run_clauses.specs.Suited.{LeavesPrepared};
     ghost use Rattle.router_top.specs.Work.{Sweeps};
 
     ghost leaves = { λ job. LeavesPrepared job.search.method job.search.count

@@ -3,24 +3,20 @@ ghost use Rattle.std.specs.Prelude.{◌≡◌, ◌≤◌, length, IfErr, IfOk};
 ghost use Rattle.fpga_types.specs.Slots.{slots};
 ghost use Rattle.fpga_types.specs.declared.limits.TheConstants.{SLOT_LIMIT};
 ghost use Rattle.router_words.specs.Job.{recipe_said, trial_said};
-ghost use Rattle.router_top.specs.Generated.{IsMade, PosesNone};
+ghost use Rattle.run_made.specs.Generated.{IsMade, PosesNone};
 ghost use Rattle.router_top.specs.Run.{TriesGenerated};
-ghost use Rattle.router_top.specs.Stopped.{EndsEarly};
+ghost use Rattle.run_outcome.specs.Stopped.{EndsEarly};
 ghost use Rattle.router_top.specs.Work.{trial_line};
 
-use crate::clock::Clock;
-use crate::generating::make_texts;
-use crate::known::known_of;
-use crate::outcome::{LINE_ROOM, Outcome, push_count};
-use crate::slot::Slot;
-use crate::stopping::unread_outcome;
 use crate::sweeping::search_widths;
-use crate::text_file::TextFile;
 use arrayvec::ArrayString;
 use desk_io::Shelf;
 use fpga_bounds::PlacedProblem;
 use fpga_problem::{FileFault, FourTexts, read_problem};
 use router_words::{Recipe, TrialJob};
+use run_clauses::known_of;
+use run_made::make_texts;
+use run_outcome::{Clock, LINE_ROOM, Outcome, Slot, TextFile, push_count, unread_outcome};
 use std::alloc::Global;
 
 // The line that says how large a problem is.

@@ -6,7 +6,7 @@ ghost use Rattle.route_count.specs.Begun.{IsBegunBy};
 ghost use Rattle.route_encode.specs.Encoding.{cnf_of};
 ghost use Rattle.route_ways.specs.Way.{course_of, serves_by};
 ghost use Rattle.router_words.specs.Job.{core_said, members_said, search_said};
-ghost use Rattle.router_top.specs.Known.{IsKnown, crowd_of};
+ghost use Rattle.run_clauses.specs.Known.{IsKnown, crowd_of};
 ghost use Rattle.router_top.specs.Ways.{core_way, plain_by, way_by, wires_by};
 ghost use Rattle.sat_clause.specs.Formula.{Cnf};
 

@@ -11,8 +11,8 @@ use Rattle.rows.specs.declared.cases.cut.Heard.{Heard}
 use Rattle.rows.specs.declared.cases.cut.Heard.TheVariants.{Both, Lead, Report, Nothing}
 use Rattle.rows.specs.declared.cases.cut.Left.{Left}
 use Rattle.rows.specs.declared.cases.cut.Left.TheVariants.{Gone, First}
-use Rattle.router_top.specs.Report.{line_of, report_of, status_of}
-use Rattle.router_top.specs.declared.outcome.Outcome.{Outcome}
+use Rattle.run_outcome.specs.Report.{line_of, report_of, status_of}
+use Rattle.run_outcome.specs.declared.outcome.Outcome.{Outcome}
 
 -- what is to be said, of these bytes and the report line
 abbrev pub heard_of : Heard → (lead line : Bytes) → Bytes

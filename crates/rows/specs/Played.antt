@@ -10,7 +10,7 @@ use Rattle.rows.specs.declared.cases.series.Failing.{Failing}
 use Rattle.rows.specs.declared.cases.series.Failing.TheVariants.{Desk, Shelf, ShelfOn}
 use Rattle.rows.specs.declared.cases.series.TheConstants.{MORE}
 use Rattle.router_top.specs.Run.{Runs}
-use Rattle.router_top.specs.declared.outcome.Outcome.{Outcome}
+use Rattle.run_outcome.specs.declared.outcome.Outcome.{Outcome}
 
 -- a run on the words of the row, over a new desk with its files and a new shelf, comes to this
 abbrev pub Plays : Row → Outcome → MemShelfView → Type 0

@@ -6,7 +6,7 @@ use Rattle.rows.specs.Played.{Plays}
 use Rattle.rows.specs.Wanted.{AreMet}
 use Rattle.rows.specs.declared.cases.cut.Cut.{Cut}
 use Rattle.rows.specs.declared.cases.row.Row.{Row}
-use Rattle.router_top.specs.declared.outcome.Outcome.{Outcome}
+use Rattle.run_outcome.specs.declared.outcome.Outcome.{Outcome}
 
 -- a run of the row has come as it must where a call fails
 abbrev pub HasCutRun : Row → (whole : MemShelfView) → Cut → Type 0

@@ -9,8 +9,8 @@ use Rattle.rows.specs.declared.cases.compare.Wanted.{Wanted}
 use Rattle.rows.specs.declared.cases.compare.Wanted.TheVariants.{Whole, Begins, Holds, Counts, Lacks}
 use Rattle.rows.specs.declared.cases.compare.WantedFile.{WantedFile}
 use Rattle.rows.specs.declared.cases.compare.Wants.{Wants}
-use Rattle.router_top.specs.Report.{line_of, report_of, status_of}
-use Rattle.router_top.specs.declared.outcome.Outcome.{Outcome}
+use Rattle.run_outcome.specs.Report.{line_of, report_of, status_of}
+use Rattle.run_outcome.specs.declared.outcome.Outcome.{Outcome}
 
 -- what is to be said: these bytes, and the report line behind them unless that is not to be said
 abbrev pub said_of : (lead : Bytes) → (is_silent : Bool) → (line : Bytes) → Bytes

@@ -4,7 +4,7 @@ ghost use Rattle.std.specs.Prelude.{◌≡◌, Some};
 use fpga_types::RouteText;
 use patience::Patience;
 use route_sweep::Watch;
-use router_top::Clock;
+use run_outcome::Clock;
 use sat_clause::{Formula, Log};
 
 /// A caller that says yes so many times, and then no; or yes each time.

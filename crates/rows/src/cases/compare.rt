@@ -6,7 +6,7 @@ use crate::cases::parts::places_of;
 use crate::cases::stop::RowStop;
 use desk_io::MemShelf;
 use itoa::Buffer;
-use router_top::{Outcome, report, status};
+use run_outcome::{Outcome, report, status};
 use std::alloc::{AllocError, Global};
 
 /// How a file must come.

@@ -6,7 +6,7 @@ ghost use Rattle.rows.specs.Cut.{AreGone, AreLeft, AreSame, IsAsCut, IsFront, he
 use crate::cases::compare::{differs, same_number, same_text};
 use crate::cases::stop::RowStop;
 use desk_io::MemShelf;
-use router_top::{Outcome, report, status};
+use run_outcome::{Outcome, report, status};
 use std::alloc::{AllocError, Global};
 
 /// What must be said in a run in which a call fails.

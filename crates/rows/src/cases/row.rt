@@ -4,7 +4,7 @@ ghost use Rattle.std.specs.Option.{ForSome};
 ghost use Rattle.rows.specs.Played.{Plays};
 ghost use Rattle.rows.specs.Series.{HasCome, HasCutRun, HasWholeRun};
 ghost use Rattle.rows.specs.Wanted.{AreMet};
-ghost use Rattle.router_top.specs.declared.outcome.Outcome.{Outcome};
+ghost use Rattle.run_outcome.specs.declared.outcome.Outcome.{Outcome};
 
 use crate::cases::compare::{Wanted, WantedFile, Wants};
 use crate::cases::cut::{Cut, compare_same};
@@ -14,7 +14,8 @@ use crate::cases::stop::{LineFault, RowStop};
 use crate::cases::texts::{Texts, is_of_text};
 use crate::questions::Questions;
 use desk_io::{MemDesk, MemShelf};
-use router_top::{Outcome as Answer, Ran, run};
+use router_top::run;
+use run_outcome::{Outcome as Answer, Ran};
 use std::alloc::Global;
 
 // Where the lines of a text go.

@@ -1,19 +1,14 @@
-use Rattle.std.proofs.Common.{◌≡◌, ℕ, List, [], ◌∷◌, ◌++◌, length, ap, subst, sym, ◌∙◌, arith, add-one}
+use Rattle.std.proofs.Common.{◌≡◌, ℕ, [], ◌∷◌, ◌++◌, ap, sym, ◌∙◌, arith, add-one}
 use Rattle.std.specs.Prelude.{slice_set}
-use Rattle.route_gen.specs.Draws.{HasFree, after_rand, drawing, drawn_block, drawn_sink, entry, input_table, next_sink, sinks_of}
+use Rattle.route_gen.specs.Draws.{after_rand, drawing, drawn_block, drawn_sink, entry, input_table, next_sink, sinks_of}
 use Rattle.route_gen.proofs.DrawLemmas.{has-free, table-length, table-next}
 use Rattle.route_gen.proofs.draws.draw_sinks.Goals as goal
 
 pub draw_sink-sink-requires-clause-blocks : goal.draw_sink-sink-requires-clause-blocks
-draw_sink-sink-requires-clause-blocks c =
-    ap length c.loop-net.invariant.inputs
-    ∙ table-length c.args.side (sinks_of c.args.seed c.args.side c.loop-net.net)
+draw_sink-sink-requires-clause-blocks c = grind (arith, table-length)
 
 pub draw_sink-sink-requires-clause-room : goal.draw_sink-sink-requires-clause-room
-draw_sink-sink-requires-clause-room c =
-    let inside = c.loop-net-test.true in
-    subst (λ (table : List (List ℕ)). HasFree table) (sym c.loop-net.invariant.inputs)
-    (has-free c.args.seed c.args.side c.loop-net.net (omega (arith, inside, c.requires.nets)))
+draw_sink-sink-requires-clause-room c = grind (arith, has-free)
 
 pub loop-net-preserved : goal.loop-net-preserved
 loop-net-preserved c =

@@ -16,7 +16,4 @@ returns-then-have_room c =
     c.loop-block.invariant here)
 
 pub returns : goal.returns
-returns c =
-    let ended = c.loop-block-test.false in
-    sym (find-none (λ block. has_room (entry c.args.inputs.now block)) c.args.from
-    (c.args.to - c.args.from) (λ k low high. c.loop-block.invariant k low (omega arith)))
+returns c = grind (arith, find-none)

@@ -1,5 +1,4 @@
-use Rattle.std.proofs.Common.{◌≡◌, List, ℕ, ◌++◌, length, ap, sym, ◌∙◌, arith}
-use Rattle.std.specs.List.{enumerate_from}
+use Rattle.std.proofs.Common.{List, ℕ, ◌++◌, ap, sym, ◌∙◌, arith}
 use Rattle.std.proofs.lemmas.List.FromFn.{length-enumerate_from}
 use Rattle.list_laws.proofs.FrontParts.{made-whole}
 use Rattle.route_gen.specs.Netlists.{block_lines}
@@ -16,10 +15,4 @@ loop-block-preserved c =
     c.loop-block-test.true c.index-inputs-block.is)
 
 pub returns : goal.returns
-returns c =
-    let count = length-enumerate_from 0 c.args.inputs.now in
-    let all : c.loop-block.block ≡ length (enumerate_from 0 c.args.inputs.now)
-    = omega (arith, count, c.loop-block-test.false) in
-    c.loop-block.invariant
-    ∙ made-whole (block_lines c.args.nets) (enumerate_from 0 c.args.inputs.now)
-    c.loop-block.block all
+returns c = grind (arith, length-enumerate_from, made-whole)

@@ -2,12 +2,12 @@ use Rattle.std.proofs.Common.{ℕ, ap, false, subst, sym}
 use Rattle.route_sweep.specs.Found.{FindsBy, FindsShort}
 use Rattle.route_ways.specs.Way.{Course, budget_of, copies_by, course_of, opens_by, refutes_by}
 use Rattle.router_words.specs.Job.{core_said}
-use Rattle.router_top.specs.Known.{crowd_of}
+use Rattle.run_clauses.specs.Known.{crowd_of}
 use Rattle.router_top.specs.Search.{core_search}
-use Rattle.router_top.specs.Suited.{clauses_along}
+use Rattle.run_clauses.specs.Suited.{clauses_along}
 use Rattle.router_top.specs.Work.{Finds}
-use Rattle.router_top.proofs.KnownLaws.{known-crowd, known-some, order-goes}
-use Rattle.router_top.proofs.PreparedLaws.{by-encoder, encoder-fair}
+use Rattle.run_clauses.proofs.KnownLaws.{known-crowd, known-some, order-goes}
+use Rattle.run_clauses.proofs.PreparedLaws.{by-encoder, encoder-fair}
 use Rattle.router_top.proofs.StoppedLaws.{blamed-early}
 use Rattle.router_top.proofs.coring.search_width.Goals as goal
 

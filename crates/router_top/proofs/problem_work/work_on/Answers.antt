@@ -1,9 +1,9 @@
 use Rattle.std.proofs.Common.{inl, refl, subst, sym}
-use Rattle.router_top.specs.declared.text_file.TextFile.TheVariants.{Problem}
-use Rattle.router_top.specs.Posed.{EndsWithoutProblem}
-use Rattle.router_top.proofs.PosedLaws.{unread-ends}
-use Rattle.router_top.proofs.StopLaws.{desk-fault}
-use Rattle.router_top.proofs.StoppedLaws.{unread-not-early}
+use Rattle.run_outcome.specs.declared.text_file.TextFile.TheVariants.{Problem}
+use Rattle.run_outcome.specs.Posed.{EndsWithoutProblem}
+use Rattle.run_outcome.proofs.PosedLaws.{unread-ends}
+use Rattle.run_outcome.proofs.StopLaws.{desk-fault}
+use Rattle.run_outcome.proofs.StoppedLaws.{unread-not-early}
 use Rattle.router_top.proofs.problem_work.work_on.Goals as goal
 
 pub returns-in-Err-clause-leaves : goal.returns-in-Err-clause-leaves

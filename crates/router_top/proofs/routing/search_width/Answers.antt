@@ -3,14 +3,14 @@ use Rattle.std.specs.Prelude.{option_map}
 use Rattle.route_sweep.specs.Found.{FindsBy, FindsShort}
 use Rattle.route_ways.specs.Way.{Course, budget_of, copies_by, course_of, opens_by, refutes_by}
 use Rattle.router_words.specs.Job.{members_said, route_said, search_said}
-use Rattle.router_top.specs.Known.{crowd_of}
+use Rattle.run_clauses.specs.Known.{crowd_of}
 use Rattle.router_top.specs.Search.{route_search}
-use Rattle.router_top.specs.Suited.{clauses_along}
+use Rattle.run_clauses.specs.Suited.{clauses_along}
 use Rattle.router_top.specs.Work.{Finds}
-use Rattle.router_top.proofs.KnownLaws.{count-goes, known-crowd, known-some, order-goes}
-use Rattle.router_top.proofs.PreparedLaws.{by-encoder, encoder-begins}
+use Rattle.run_clauses.proofs.KnownLaws.{count-goes, known-crowd, known-some, order-goes}
+use Rattle.run_clauses.proofs.PreparedLaws.{by-encoder, encoder-begins}
 use Rattle.router_top.proofs.ServeLaws.{budget-said}
-use Rattle.router_top.proofs.StoppedLaws.{found-early}
+use Rattle.run_outcome.proofs.StoppedLaws.{found-early}
 use Rattle.router_top.proofs.routing.search_width.Goals as goal
 
 pub of-encoder-requires-clause-known : goal.of-encoder-requires-clause-known

@@ -1,14 +1,15 @@
 use Rattle.std.proofs.lemmas.Option.{IfSome_then}
 use Rattle.router_words.specs.Word.{words_of}
-use Rattle.router_top.specs.Run.{Runs, scene}
+use Rattle.router_top.specs.Run.{Runs}
+use Rattle.run_outcome.specs.Scene.{scene}
 use Rattle.router_top.proofs.ComeLaws.{leaves-came}
 use Rattle.router_top.proofs.CompleteLaws.{runs-complete}
 use Rattle.router_top.proofs.LeftLaws.{runs-leave}
 use Rattle.router_top.proofs.MeansLaws.{runs-mean}
-use Rattle.router_top.proofs.PosedLaws.{reported-lacks}
-use Rattle.router_top.proofs.ReasonLaws.{reported-gives, reported-lacks-reason}
+use Rattle.run_outcome.proofs.PosedLaws.{reported-lacks}
+use Rattle.run_placed.proofs.ReasonLaws.{reported-gives, reported-lacks-reason}
 use Rattle.router_top.proofs.SaidLaws.{runs-speak}
-use Rattle.router_top.proofs.StoppedLaws.{reported-stopped}
+use Rattle.run_outcome.proofs.StoppedLaws.{reported-stopped}
 use Rattle.router_top.proofs.running.run.Goals as goal
 
 pub returns : goal.returns

@@ -1,9 +1,9 @@
 use Rattle.std.proofs.Common.{inr, refl}
 use Rattle.std.proofs.lemmas.Option.{IfSome_then}
 use Rattle.router_words.specs.Word.{words_of}
-use Rattle.router_top.proofs.PosedLaws.{lacks-none}
-use Rattle.router_top.proofs.ReasonLaws.{others-lack}
-use Rattle.router_top.proofs.StoppedLaws.{none-early, refused-stopped, stopped-there}
+use Rattle.run_outcome.proofs.PosedLaws.{lacks-none}
+use Rattle.run_placed.proofs.ReasonLaws.{others-lack}
+use Rattle.run_outcome.proofs.StoppedLaws.{none-early, stopped-there}
 use Rattle.router_top.proofs.running.work.Goals as goal
 
 pub returns-in-Ok-Route-clause-leaves : goal.returns-in-Ok-Route-clause-leaves

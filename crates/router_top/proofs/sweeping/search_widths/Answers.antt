@@ -4,13 +4,13 @@ use Rattle.route_sweep.specs.Asked.{Asked}
 use Rattle.route_sweep.specs.Climb.{ClimbsShort, ClimbsTo}
 use Rattle.route_ways.specs.Way.{Course, budget_of, copies_by, course_of, opens_by, refutes_by}
 use Rattle.router_words.specs.Job.{members_said, search_said}
-use Rattle.router_top.specs.Known.{crowd_of}
-use Rattle.router_top.specs.Method.{IsRoutingBy, clauses_by}
-use Rattle.router_top.specs.Suited.{clauses_along}
-use Rattle.router_top.proofs.KnownLaws.{count-goes, known-crowd, known-some, order-goes}
-use Rattle.router_top.proofs.PreparedLaws.{by-encoder, encoder-begins}
+use Rattle.run_clauses.specs.Known.{crowd_of}
+use Rattle.run_clauses.specs.Method.{IsRoutingBy, clauses_by}
+use Rattle.run_clauses.specs.Suited.{clauses_along}
+use Rattle.run_clauses.proofs.KnownLaws.{count-goes, known-crowd, known-some, order-goes}
+use Rattle.run_clauses.proofs.PreparedLaws.{by-encoder, encoder-begins}
 use Rattle.router_top.proofs.ServeLaws.{budget-said}
-use Rattle.router_top.proofs.StoppedLaws.{climbed-early}
+use Rattle.run_outcome.proofs.StoppedLaws.{climbed-early}
 use Rattle.router_top.proofs.sweeping.search_widths.Goals as goal
 
 pub of-encoder-requires-clause-known : goal.of-encoder-requires-clause-known

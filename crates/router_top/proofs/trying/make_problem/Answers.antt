@@ -3,8 +3,8 @@ use Rattle.fpga_problem.specs.Texts.{faults_of, problem_said}
 use Rattle.fpga_text.specs.FirstFault.{IsRefusal}
 use Rattle.fpga_types.specs.Texts.{Texts}
 use Rattle.router_words.specs.Job.{recipe_said}
-use Rattle.router_top.specs.Generated.{IsMade, PosesNone}
-use Rattle.router_top.proofs.GeneratedLaws.{refused-many, said-made}
+use Rattle.run_made.specs.Generated.{IsMade, PosesNone}
+use Rattle.run_made.proofs.GeneratedLaws.{refused-many, said-made}
 use Rattle.router_top.proofs.trying.make_problem.Goals as goal
 
 pub returns-in-Ok-read_problem-clause-made : goal.returns-in-Ok-read_problem-clause-made

@@ -2,8 +2,8 @@ use Rattle.std.proofs.Common.{◌∙◌, refl, ap, subst, inl, inr}
 use Rattle.router_words.specs.Job.{recipe_said, trial_said}
 use Rattle.router_top.specs.Search.{sweep_of}
 use Rattle.router_top.specs.Work.{Sweeps}
-use Rattle.router_top.specs.Subject.{Bytes, FailsToSay, ShelfState, after_say}
-use Rattle.router_top.proofs.StoppedLaws.{not-open, unmade-not-early}
+use Rattle.run_outcome.specs.Subject.{Bytes, FailsToSay, ShelfState, after_say}
+use Rattle.router_top.proofs.StoppedLaws.{unmade-not-early}
 use Rattle.router_top.proofs.trying.trial.Goals as goal
 
 pub returns-in-Err-clause-leaves : goal.returns-in-Err-clause-leaves

@@ -4,7 +4,7 @@ use Rattle.problem_facts.specs.Facts.{AreFactsOf, FactsState}
 use Rattle.route_ways.specs.Plain.{CanSearch}
 use Rattle.route_ways.specs.declared.plain.Plain.{Plain}
 use Rattle.router_words.specs.Job.{members_said, search_said}
-use Rattle.router_top.proofs.KnownLaws.{count-goes}
+use Rattle.run_clauses.proofs.KnownLaws.{count-goes}
 use Rattle.router_top.proofs.ServeLaws.{can-search, said-turn}
 use Rattle.router_top.proofs.ways.way_by.Goals as goal
 

@@ -1,7 +1,0 @@
-use Rattle.std.proofs.Common.{◌≡◌, ◌++◌, take}
-use Rattle.router_top.specs.Causes.{cause_lines}
-use Rattle.router_top.proofs.cause_lines.append_lines.Given as goal
-
-abbrev pub invariant-loop-at : goal.invariant-loop-at
-invariant-loop-at l =
-    l.lines.items ≡ l.initial.lines.items ++ cause_lines l.nets (take l.at-index l.causes)

@@ -1,5 +1,0 @@
-use Rattle.desk_io.proofs.WritingLaws.{passes-none}
-use Rattle.router_top.proofs.variable_names.write_names_if.Goals as goal
-
-pub returns : goal.returns
-returns g c = rw c.if-asked.false (passes-none _ _)

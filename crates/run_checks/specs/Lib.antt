@@ -1,0 +1,3 @@
+pub mod Causes
+pub mod Check
+pub mod Placed

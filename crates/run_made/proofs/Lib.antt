@@ -1,0 +1,2 @@
+pub mod GeneratedLaws
+pub mod TrackLaws

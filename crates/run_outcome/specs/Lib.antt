@@ -1,0 +1,9 @@
+pub mod Agrees
+pub mod Posed
+pub mod Report
+pub mod Scene
+pub mod SizeCauses
+pub mod SlotNames
+pub mod Stopped
+pub mod Subject
+pub mod Written

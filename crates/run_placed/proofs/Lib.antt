@@ -1,0 +1,4 @@
+pub mod GlobalLaws
+pub mod LeastLaws
+pub mod RaisedLaws
+pub mod ReasonLaws
